@@ -1,0 +1,3 @@
+pub mod At
+pub mod Kinds
+pub mod Names

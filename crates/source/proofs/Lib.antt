@@ -1,0 +1,4 @@
+pub mod Rows
+pub mod Fronts
+pub mod OneWay
+pub mod RoundTrip

@@ -1,0 +1,128 @@
+ghost use mathlib.Core.Path.{_≡_};
+ghost use Prim.Native.Nat.{_+_, _≤_};
+ghost use denote.Ref.{now};
+ghost use lib.ListN.{length};
+ghost use Rattle.source.specs.Records.{eventOf};
+ghost use Rattle.source.specs.Reading.{twoAt, fourAt, contentOf, frontOf, eventsIn, closeIn, Read-one-way};
+use crate::close::Close;
+use crate::close::Fault;
+use crate::close::Next;
+use crate::event_source::EventSource;
+use syntax::Event;
+use syntax::Span;
+use syntax::SyntaxKind;
+
+// Events in packed bytes, of which the first is the next record's.
+#[derive(Drop)]
+pub struct Packed<'a> {
+    bytes: &'a [u8],
+}
+
+impl<'a> Packed<'a> {
+    pub fn new(bytes: &'a [u8]) -> Packed<'a>
+        ensures value { λ r. ⌜ now (r .bytes) ≡ now (bytes .entry) ⌝ }
+        ensures cases { λ _. ⌜ Read-one-way ⌝ }
+    {
+        Packed { bytes }
+    }
+
+    // How many bytes are not taken yet.
+    pub fn left(&self) -> usize
+        ensures { λ r. ⌜ r ≡ length (now (now (self .entry) .bytes)) ⌝ }
+    {
+        self.bytes.len()
+    }
+}
+
+fn two(bytes: &[u8], at: usize) -> u16
+    requires { ⌜ at + 2 ≤ length (now bytes) ⌝ }
+    ensures { λ r. ⌜ r ≡ twoAt (now (bytes .entry)) at ⌝ }
+{
+    bytes[at] as u16 * 256 + bytes[at + 1] as u16
+}
+
+fn four(bytes: &[u8], at: usize) -> u32
+    requires { ⌜ at + 4 ≤ length (now bytes) ⌝ }
+    ensures { λ r. ⌜ r ≡ fourAt (now (bytes .entry)) at ⌝ }
+{
+    let high = bytes[at] as u32 * 256 + bytes[at + 1] as u32;
+    let low = bytes[at + 2] as u32 * 256 + bytes[at + 3] as u32;
+    high * 65536 + low
+}
+
+// The event of a tag, a number and a span; none where the number is no kind's.
+fn event(tag: u8, number: u16, span: Span) -> Option<Event>
+    ensures { λ r. ⌜ r ≡ eventOf tag number span ⌝ }
+{
+    if tag == 4 {
+        return Some(Event::Error {
+            message: number,
+            span,
+        });
+    }
+    let kind = SyntaxKind::from_number(number)?;
+    match tag {
+        1 => Some(Event::Begin { kind, span }),
+        2 => Some(Event::End { kind, span }),
+        3 => Some(Event::Token { kind, span }),
+        _ => None,
+    }
+}
+
+// What a whole record gives.
+fn content(tag: u8, bytes: &[u8]) -> Next
+    requires { ⌜ 13 ≤ length (now bytes) ⌝ }
+    ensures { λ r. ⌜ r ≡ contentOf tag (now (bytes .entry)) ⌝ }
+{
+    let span = Span {
+        start: four(bytes, 5),
+        end: four(bytes, 9),
+    };
+    match event(tag, two(bytes, 3), span) {
+        Some(event) => Next::Event(event),
+        None => Next::Closed(Close::Fault(Fault::UnknownKind)),
+    }
+}
+
+// What stands first in the bytes.
+fn front(bytes: &[u8]) -> Next
+    ensures { λ r. ⌜ r ≡ frontOf (now (bytes .entry)) ⌝ }
+{
+    if bytes.len() < 3 {
+        return Next::Closed(Close::Fault(Fault::Cut));
+    }
+    let tag = bytes[0];
+    if tag > 4 {
+        return Next::Closed(Close::Fault(Fault::UnknownTag));
+    }
+    let size = if tag == 0 { 0 } else { 10 };
+    if two(bytes, 1) != size {
+        Next::Closed(Close::Fault(Fault::WrongLength))
+    } else if tag == 0 {
+        Next::Closed(Close::End)
+    } else if bytes.len() < 13 {
+        Next::Closed(Close::Fault(Fault::Cut))
+    } else {
+        content(tag, bytes)
+    }
+}
+
+pub impl<'a> EventSource for Packed<'a> as PackedSource {
+    ghost events = { λ s. eventsIn (now (s .bytes)) 0 };
+
+    ghost close = { λ s. closeIn (now (s .bytes)) 0 };
+
+    fn look(&self) -> Next {
+        front(self.bytes)
+    }
+
+    fn take(&mut self) -> Next {
+        match front(self.bytes) {
+            Next::Event(event) => {
+                self.bytes = &self.bytes[13..];
+                Next::Event(event)
+            }
+            Next::Closed(close) => Next::Closed(close),
+        }
+    }
+}
