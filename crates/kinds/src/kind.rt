@@ -153,7 +153,7 @@ pub enum SyntaxKind {
     INVALID_UTF8,
 }
 
-const KINDS: [SyntaxKind; 127] = [
+static KINDS: [SyntaxKind; 127] = [
     SyntaxKind::ALL_KW,
     SyntaxKind::AND_KW,
     SyntaxKind::ANY_KW,
@@ -283,7 +283,7 @@ const KINDS: [SyntaxKind; 127] = [
     SyntaxKind::INVALID_UTF8,
 ];
 
-const NAMES: [&str; 127] = [
+static NAMES: [&str; 127] = [
     "ALL_KW",
     "AND_KW",
     "ANY_KW",

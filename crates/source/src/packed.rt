@@ -95,11 +95,15 @@ fn front(bytes: &[u8]) -> Next
     if tag > 4 {
         return Next::Closed(Close::Fault(Fault::UnknownTag));
     }
-    let size = if tag == 0 { 0 } else { 10 };
-    if two(bytes, 1) != size {
+    let size = two(bytes, 1);
+    if tag == 0 {
+        if size == 0 {
+            Next::Closed(Close::End)
+        } else {
+            Next::Closed(Close::Fault(Fault::WrongLength))
+        }
+    } else if size != 10 {
         Next::Closed(Close::Fault(Fault::WrongLength))
-    } else if tag == 0 {
-        Next::Closed(Close::End)
     } else if bytes.len() < 13 {
         Next::Closed(Close::Fault(Fault::Cut))
     } else {
