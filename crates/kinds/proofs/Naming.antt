@@ -10,13 +10,13 @@ use lib.ListN.{length, getD, drop}
 use Rattle.std.proofs.shelf.Lists.{drop-all}
 use native.Mathlib.Omega.{arith}
 use Rattle.std.specs.declared.option.Option.the-variants.{Some}
-use Rattle.kinds.specs.Kinds.{numberOf, kindOf}
-use Rattle.kinds.specs.Names.{names, nameOf, sameText, placeOf, kindNamed}
+use Rattle.kinds.specs.Kinds.{numberOf}
+use Rattle.kinds.specs.Names.{names, nameOf, sameText, placeOf}
 use Rattle.kinds.specs.declared.kind.SyntaxKind.{SyntaxKind}
 use Rattle.kinds.specs.declared.kind.SyntaxKind.the-variants.{«ALL_KW», «AND_KW», «ANY_KW», «ASCII_KW», «AT_KW», «BASE64_KW», «BASE64WIDE_KW», «CONDITION_KW», «CONTAINS_KW», «DEFINED_KW», «ENDSWITH_KW», «ENTRYPOINT_KW», «FALSE_KW», «FILESIZE_KW», «FOR_KW», «FULLWORD_KW», «GLOBAL_KW», «ICONTAINS_KW», «IENDSWITH_KW», «IEQUALS_KW», «IMPORT_KW», «IN_KW», «INCLUDE_KW», «ISTARTSWITH_KW», «MATCHES_KW», «META_KW», «NOCASE_KW», «NONE_KW», «NOT_KW», «OF_KW», «OR_KW», «PRIVATE_KW», «RULE_KW», «STARTSWITH_KW», «STRINGS_KW», «THEM_KW», «TRUE_KW», «WIDE_KW», «XOR_KW», «WITH_KW», ADD, SUB, MUL, DIV, MOD, MINUS, SHL, SHR, «BITWISE_AND», «BITWISE_OR», «BITWISE_XOR», «BITWISE_NOT», EQ, NE, LT, LE, GT, GE, AMPERSAND, ASTERISK, CARET, COLON, COMMA, BACKSLASH, DOT, EQUAL, HYPHEN, PERCENT, PIPE, PLUS, TILDE, «L_BRACE», «R_BRACE», «L_BRACKET», «R_BRACKET», «L_PAREN», «R_PAREN», «FLOAT_LIT», «STRING_LIT», «INTEGER_LIT», COMMENT, WHITESPACE, NEWLINE, IDENT, «PATTERN_IDENT», «PATTERN_LENGTH», «PATTERN_OFFSET», «PATTERN_COUNT», «IMPORT_STMT», «INCLUDE_STMT», «RULE_DECL», «RULE_MODS», «RULE_TAGS», «CONDITION_BLK», «PATTERN_DEF», «PATTERNS_BLK», «PATTERN_MODS», «PATTERN_MOD», RANGE, REGEXP, EXPR, «PRIMARY_EXPR», TERM, «FUNC_CALL», «META_DEF», «META_BLK», «SOURCE_FILE», «BOOLEAN_EXPR», «BOOLEAN_TERM», «FOR_EXPR», «OF_EXPR», «WITH_EXPR», «WITH_DECLS», «WITH_DECL», ITERABLE, QUANTIFIER, «EXPR_TUPLE», «BOOLEAN_EXPR_TUPLE», «PATTERN_IDENT_TUPLE», «HEX_ALTERNATIVE», «HEX_JUMP», «HEX_BYTE», «HEX_PATTERN», «HEX_SUB_PATTERN», ERROR, UNKNOWN, «INVALID_UTF8»}
-use Rattle.kinds.proofs.Inverse.{kind-of-number, and-both}
+use Rattle.kinds.proofs.Inverse.{and-both}
 
-name-place : (k : SyntaxKind) → placeOf (nameOf k) names ≡ numberOf k
+pub name-place : (k : SyntaxKind) → placeOf (nameOf k) names ≡ numberOf k
 unfolding placeOf
 name-place «ALL_KW» = refl
 name-place «AND_KW» = refl
@@ -145,9 +145,6 @@ name-place «HEX_SUB_PATTERN» = refl
 name-place ERROR = refl
 name-place UNKNOWN = refl
 name-place «INVALID_UTF8» = refl
-
-pub kind-of-name : (k : SyntaxKind) → kindNamed (nameOf k) ≡ Some k
-kind-of-name k = ap kindOf (name-place k) ∙ kind-of-number k
 
 same-self : (t : List ℕ) → sameText t t ≡ true
 same-self [] = refl

@@ -1,9 +1,12 @@
 ghost use mathlib.Core.Path.{_≡_};
-ghost use Prim.Native.Nat.{_≤_};
+ghost use mathlib.Core.List.{[]};
+ghost use Prim.Native.Nat.{_≤_, _<_};
+ghost use lib.ListN.{getD};
 ghost use Rattle.std.specs.Options.{Cases};
 ghost use Rattle.std.specs.declared.option.Option.the-variants.{Some};
 ghost use Rattle.kinds.specs.Kinds.{numberOf, kindOf, same};
-ghost use Rattle.kinds.specs.Names.{nameOf, kindNamed};
+ghost use Rattle.kinds.specs.Names.{names, nameOf, placeOf, kindNamed};
+ghost use Rattle.kinds.specs.declared.kind.SyntaxKind.{SyntaxKind};
 
 // Each kind of node or token of a syntax tree, under the original's names and in its order.
 #[derive(Clone, Copy)]
@@ -413,11 +416,43 @@ static NAMES: [&str; 127] = [
     "INVALID_UTF8",
 ];
 
+fn kind_at(place: usize) -> Option<SyntaxKind>
+    ensures value { λ r. ⌜ r ≡ kindOf place ⌝ }
+    ensures some { λ r. ⌜ ((k : SyntaxKind) → place ≡ numberOf k → r ≡ Some k) ⌝ }
+    ensures back { λ r. ⌜ Cases r (127 ≤ place) (λ k. place ≡ numberOf k) ⌝ }
+{
+    if place < 127 {
+        Some(KINDS[place])
+    } else {
+        None
+    }
+}
+
+fn name_at(place: usize) -> &'static str
+    requires { ⌜ place < 127 ⌝ }
+    ensures { λ r. ⌜ now r ≡ getD names place [] ⌝ }
+{
+    NAMES[place]
+}
+
+// Where a name stands, or 127.
+fn place_of(name: &str) -> usize
+    ensures value { λ r. ⌜ r ≡ placeOf (now (name .entry)) names ⌝ }
+    ensures some { λ r. ⌜ ((k : SyntaxKind) → now (name .entry) ≡ nameOf k → r ≡ numberOf k) ⌝ }
+{
+    for place in 0..127 {
+        if name_at(place) == name {
+            return place;
+        }
+    }
+    127
+}
+
 impl SyntaxKind {
     // The kind's place in the order above, from 0.
     pub fn number(self) -> u16
         ensures value { λ r. ⌜ r ≡ numberOf self ⌝ }
-        ensures back { λ r. ⌜ kindOf r ≡ Some self ⌝ }
+        ensures bound { λ r. ⌜ r < 127 ⌝ }
     {
         self as u16
     }
@@ -425,32 +460,24 @@ impl SyntaxKind {
     // The kind of a number, if it has one.
     pub fn from_number(number: u16) -> Option<SyntaxKind>
         ensures value { λ r. ⌜ r ≡ kindOf number ⌝ }
-        ensures back { λ r. ⌜ Cases r (127 ≤ number) (λ k. numberOf k ≡ number) ⌝ }
+        ensures some { λ r. ⌜ ((k : SyntaxKind) → number ≡ numberOf k → r ≡ Some k) ⌝ }
+        ensures back { λ r. ⌜ Cases r (127 ≤ number) (λ k. number ≡ numberOf k) ⌝ }
     {
-        if number < 127 {
-            Some(KINDS[number as usize])
-        } else {
-            None
-        }
+        kind_at(number as usize)
     }
 
     pub fn name(self) -> &'static str
-        ensures value { λ r. ⌜ now r ≡ nameOf self ⌝ }
-        ensures back { λ r. ⌜ kindNamed (now r) ≡ Some self ⌝ }
+        ensures { λ r. ⌜ now r ≡ nameOf self ⌝ }
     {
-        NAMES[self.number() as usize]
+        name_at(self.number() as usize)
     }
 
     // The kind with a name, if any.
     pub fn from_name(name: &str) -> Option<SyntaxKind>
         ensures value { λ r. ⌜ r ≡ kindNamed (now (name .entry)) ⌝ }
+        ensures some { λ r. ⌜ ((k : SyntaxKind) → now (name .entry) ≡ nameOf k → r ≡ Some k) ⌝ }
     {
-        for place in 0..127 {
-            if NAMES[place] == name {
-                return Some(KINDS[place]);
-            }
-        }
-        None
+        kind_at(place_of(name))
     }
 }
 

@@ -1,7 +1,8 @@
 ghost use mathlib.Core.Path.{_≡_};
-ghost use Prim.Native.Nat.{_+_, _≤_};
+ghost use Prim.Native.Nat.{_+_, _≤_, _<_, _^_};
 ghost use denote.Ref.{now};
 ghost use lib.ListN.{length};
+ghost use Rattle.source.specs.Meaning.{nextOf, restOf};
 ghost use Rattle.source.specs.Records.{eventOf};
 ghost use Rattle.source.specs.Reading.{twoAt, fourAt, contentOf, frontOf, eventsIn, closeIn, Read-one-way};
 use crate::close::Close;
@@ -111,22 +112,32 @@ fn front(bytes: &[u8]) -> Next
     }
 }
 
+// What the bytes give first, and those behind it: all of them where that is the close.
+fn split(bytes: &[u8]) -> (Next, &[u8])
+    ensures value { λ r. ⌜ r .0 ≡ nextOf (eventsIn (now (bytes .entry)) 0) (closeIn (now (bytes .entry)) 0) ⌝ }
+    ensures rest { λ r. ⌜ eventsIn (now (r .1)) 0 ≡ restOf (eventsIn (now (bytes .entry)) 0) ⌝ }
+    ensures same { λ r. ⌜ closeIn (now (r .1)) 0 ≡ closeIn (now (bytes .entry)) 0 ⌝ }
+    ensures bound { λ _. ⌜ length (eventsIn (now (bytes .entry)) 0) < 2 ^ 64 ⌝ }
+{
+    match front(bytes) {
+        Next::Event(event) => (Next::Event(event), &bytes[13..]),
+        Next::Closed(close) => (Next::Closed(close), bytes),
+    }
+}
+
 pub impl<'a> EventSource for Packed<'a> as PackedSource {
     ghost events = { λ s. eventsIn (now (s .bytes)) 0 };
 
     ghost close = { λ s. closeIn (now (s .bytes)) 0 };
 
     fn look(&self) -> Next {
-        front(self.bytes)
+        let (next, _) = split(self.bytes);
+        next
     }
 
     fn take(&mut self) -> Next {
-        match front(self.bytes) {
-            Next::Event(event) => {
-                self.bytes = &self.bytes[13..];
-                Next::Event(event)
-            }
-            Next::Closed(close) => Next::Closed(close),
-        }
+        let (next, rest) = split(self.bytes);
+        self.bytes = rest;
+        next
     }
 }
