@@ -7,6 +7,7 @@ description of the record alone, to hold the program's own print against.
 """
 import sys
 
+from literal_values import told
 from syntax_kinds import KINDS
 
 FAULTS = {1: "Cut", 2: "UnknownTag", 3: "WrongLength", 4: "UnknownKind"}
@@ -89,7 +90,8 @@ def record(source, packed):
                 trivia += 1
                 notes = " trivia" + notes
             if good_span:
-                text = " " + quoted(source[start:end])
+                token = source[start:end]
+                text = " " + quoted(token) + told(name, token, start, quoted)
                 gaps += max(0, start - reach)
                 reach = max(reach, end)
 

@@ -3,6 +3,7 @@ mod failure;
 mod listing;
 mod record;
 mod shown;
+mod value;
 
 use failure::Failure;
 use failure::FailureDisplay;

@@ -3,6 +3,7 @@ use crate::failure::FailureFromError;
 use crate::failure::FailureFromMemory;
 use crate::failure::FailureFromRefused;
 use crate::shown::shown;
+use crate::value::value;
 use source::Close;
 use source::EventSource;
 use source::Next;
@@ -168,7 +169,8 @@ impl Record<'_> {
         self.head(out, "token", kind.name(), span)?;
         if let Some(text) = self.source.get(span.start()..span.end()) {
             let text = shown(heap, text)?;
-            write!(out, " {text}")?;
+            let value = value(heap, self.source, kind, span)?;
+            write!(out, " {text}{value}")?;
             self.cover(span);
         }
         if trivia {

@@ -1,0 +1,15 @@
+pub mod Cuts
+pub mod Escaping
+pub mod Factors
+pub mod Fronts
+pub mod Hexed
+pub mod Marks
+pub mod Numbers
+pub mod Parted
+pub mod Points
+pub mod Quotients
+pub mod Refusing
+pub mod Standing
+pub mod Sums
+pub mod Wellformed
+pub mod Worked

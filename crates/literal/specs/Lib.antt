@@ -1,0 +1,13 @@
+pub mod Digits
+pub mod Escapes
+pub mod Examples
+pub mod Floats
+pub mod Integers
+pub mod Laws
+pub mod Machine
+pub mod Memory
+pub mod Numerals
+pub mod Regexps
+pub mod Strings
+pub mod Texts
+pub mod Utf8
