@@ -1,4 +1,5 @@
 // The command line of Gathnomir.
+mod demo;
 mod failure;
 mod listing;
 mod record;
@@ -20,6 +21,8 @@ const USAGE: &str = "usage: gathnomir events SOURCE EVENTS
        gathnomir pack LISTING [EVENTS]
            pack the events that LISTING names, one to a line, into the file EVENTS,
            or onto standard output
+       gathnomir tree
+           print the tree of one condition, placed by hand, as an outline and in one line
        gathnomir help
            print this text";
 
@@ -52,6 +55,7 @@ fn run(rt: &LibcRuntime) -> Result<(), Failure> {
             let bytes = pack(rt, listing.as_str())?;
             write(rt, events.as_str(), bytes.as_slice())
         }
+        ("tree", []) => demo::print(rt),
         ("help", []) => Ok(println!(rt, "{USAGE}")?),
         _ => Err(Failure::Usage),
     }

@@ -1,0 +1,3 @@
+pub mod Adding
+pub mod Printed
+pub mod Wholly

@@ -1,0 +1,11 @@
+use mathlib.Core.Path.{_≡_}
+use mathlib.Core.List.{_++_}
+use lib.ListN.{drop}
+use Rattle.std.specs.Of.String.{string-bytes}
+use Rattle.outline.specs.Shown.{bytesText}
+use Rattle.outline.proofs.print.put_bytes.Given as given
+
+abbrev pub Inv-loop-byte : given.InvT-loop-byte
+Inv-loop-byte l =
+    string-bytes (l .out) ++ bytesText (drop (l .byte-index) (l .bytes))
+    ≡ string-bytes (l .entry .out) ++ bytesText (l .bytes)

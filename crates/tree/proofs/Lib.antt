@@ -1,0 +1,10 @@
+pub mod Inverse
+pub mod Counts
+pub mod Stores
+pub mod Layouts
+pub mod Uniqueness
+pub mod Within
+pub mod Held
+pub mod Fits
+pub mod Pendings
+pub mod Telling

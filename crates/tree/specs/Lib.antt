@@ -1,0 +1,10 @@
+pub mod Kinds
+pub mod Parts
+pub mod Labels
+pub mod Trees
+pub mod Layout
+pub mod Reads
+pub mod Memory
+pub mod Holds
+pub mod Tells
+pub mod Laws
