@@ -1,0 +1,10 @@
+pub mod Words
+pub mod Grammar
+pub mod Nests
+pub mod Nodes
+pub mod Built
+pub mod Conditions
+pub mod Tests
+pub mod Causes
+pub mod Laws
+pub mod Examples

@@ -1,0 +1,31 @@
+// The grammar of conditions: definitions, and what is proved of them. Each function says what it is named after.
+ghost use Rattle.grammar.specs.Examples.{Examples};
+ghost use Rattle.grammar.specs.Laws.{One-reading, Nesting, One-cause, One-first-cause, Closed-is-whole, Never-out-of-place};
+
+pub fn no_condition_has_two_readings()
+    ensures { λ _. ⌜ One-reading ⌝ }
+{}
+
+pub fn conditions_nest()
+    ensures { λ _. ⌜ Nesting ⌝ }
+{}
+
+pub fn an_event_gives_one_cause()
+    ensures { λ _. ⌜ One-cause ⌝ }
+{}
+
+pub fn a_first_cause_is_unique()
+    ensures { λ _. ⌜ One-first-cause ⌝ }
+{}
+
+pub fn what_closes_is_whole()
+    ensures { λ _. ⌜ Closed-is-whole ⌝ }
+{}
+
+pub fn a_condition_is_never_out_of_place()
+    ensures { λ _. ⌜ Never-out-of-place ⌝ }
+{}
+
+pub fn worked_examples()
+    ensures { λ _. ⌜ Examples ⌝ }
+{}
