@@ -3,6 +3,7 @@ pub mod Unique
 pub mod Nested
 pub mod Ends
 pub mod OneCause
+pub mod OneAnswer
 pub mod Soundness
 pub mod Laws
 pub mod Worked

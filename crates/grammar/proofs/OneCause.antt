@@ -19,7 +19,7 @@ use Rattle.grammar.specs.Tests.{minusRefusal}
 use Rattle.grammar.proofs.Heads.{heads, tails}
 use Rattle.grammar.proofs.Ends.{minus-same}
 
-neither : {P : Type 0} {b : Bool} → b ≡ true → b ≡ false → P
+pub neither : {P : Type 0} {b : Bool} → b ≡ true → b ≡ false → P
 neither t f = absurd (both-ways _ f t)
 
 some-none : {P : Type 0} {o : Option Refusal} {r : Refusal} → o ≡ Some r → o ≡ None → P
@@ -91,12 +91,15 @@ cause-one source v i r q c d =
     why-one (subst₂ (λ u e. Why source u e r) (f .0) (f .1) (c .why)) (d .why)
 
 -- and at most one first cause
-pub first-one : (source : List ℕ) (v : Word) (r q : Refusal) → FirstCause source v r → FirstCause source v q → r ≡ q
-first-one source v r q c d = by-order (leb-tells (c .at) (d .at)) (leb-tells (d .at) (c .at))
+pub first-same : (source : List ℕ) (v : Word) (r q : Refusal) (c : FirstCause source v r) (d : FirstCause source v q) → (r ≡ q) × (c .at ≡ d .at)
+first-same source v r q c d = by-order (leb-tells (c .at) (d .at)) (leb-tells (d .at) (c .at))
   where
-    by-order : ((leb (c .at) (d .at) ≡ true) × (c .at ≤ d .at)) ⊎ ((leb (c .at) (d .at) ≡ false) × (d .at < c .at)) → ((leb (d .at) (c .at) ≡ true) × (d .at ≤ c .at)) ⊎ ((leb (d .at) (c .at) ≡ false) × (c .at < d .at)) → r ≡ q
+    by-order : ((leb (c .at) (d .at) ≡ true) × (c .at ≤ d .at)) ⊎ ((leb (c .at) (d .at) ≡ false) × (d .at < c .at)) → ((leb (d .at) (c .at) ≡ true) × (d .at ≤ c .at)) ⊎ ((leb (d .at) (c .at) ≡ false) × (c .at < d .at)) → (r ≡ q) × (c .at ≡ d .at)
     by-order (inr l) m = absurd (c .first (d .at) q (l .1) (d .cause))
     by-order (inl l) (inr m) = absurd (d .first (c .at) r (m .1) (c .cause))
     by-order (inl l) (inl m) =
         let e : c .at ≡ d .at = omega (arith, l .1, m .1) in
-        cause-one source v (d .at) r q (subst (λ i. Cause source v i r) e (c .cause)) (d .cause)
+        (cause-one source v (d .at) r q (subst (λ i. Cause source v i r) e (c .cause)) (d .cause), e)
+
+pub first-one : (source : List ℕ) (v : Word) (r q : Refusal) → FirstCause source v r → FirstCause source v q → r ≡ q
+first-one source v r q c d = first-same source v r q c d .0

@@ -6,5 +6,7 @@ pub mod Built
 pub mod Conditions
 pub mod Tests
 pub mod Causes
+pub mod Extents
+pub mod Answers
 pub mod Laws
 pub mod Examples

@@ -1,4 +1,8 @@
 // The grammar of conditions: definitions, and what is proved of them. Each function says what it is named after.
+mod entry;
+
+pub use entry::Entry;
+ghost use Rattle.grammar.specs.Answers.{One-answer};
 ghost use Rattle.grammar.specs.Examples.{Examples};
 ghost use Rattle.grammar.specs.Laws.{One-reading, Nesting, One-cause, One-first-cause, Closed-is-whole, Never-out-of-place};
 
@@ -28,4 +32,8 @@ pub fn a_condition_is_never_out_of_place()
 
 pub fn worked_examples()
     ensures { λ _. ⌜ Examples ⌝ }
+{}
+
+pub fn a_condition_has_one_answer()
+    ensures { λ _. ⌜ One-answer ⌝ }
 {}
