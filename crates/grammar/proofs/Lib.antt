@@ -4,6 +4,7 @@ pub mod Nested
 pub mod Ends
 pub mod OneCause
 pub mod OneAnswer
+pub mod Least
 pub mod Soundness
 pub mod Laws
 pub mod Worked

@@ -1,9 +1,10 @@
 -- What holds of every condition.
-use Prim.Native.Nat.{ℕ}
+use Prim.Native.Nat.{ℕ, _≤_}
 use mathlib.Core.Bool.{false}
 use mathlib.Core.Path.{_≡_}
 use mathlib.Core.List.{List, [], _∷_, _++_}
 use Rattle.syntax.specs.declared.event.Event.{Event}
+use Rattle.refusal.specs.Refusals.{factsOf}
 use Rattle.refusal.specs.declared.refusal.Refusal.{Refusal}
 use Rattle.grammar.specs.Words.{Word}
 use Rattle.grammar.specs.Grammar.{BE, spell-BE}
@@ -11,6 +12,7 @@ use Rattle.grammar.specs.Nests.{Nests}
 use Rattle.grammar.specs.Conditions.{Spelled, Begins}
 use Rattle.grammar.specs.Tests.{isDamaged, opens}
 use Rattle.grammar.specs.Causes.{Cause, FirstCause}
+use Rattle.grammar.specs.Answers.{NoCause}
 
 -- two conditions with one spelling are one condition, with whatever follows
 abbrev pub One-reading : Type 0
@@ -34,3 +36,12 @@ Closed-is-whole = (v : Word) → Begins v → (v ≡ [] → ⊥) → opens 0 v �
 -- no event of a condition is damaged or out of place
 abbrev pub Never-out-of-place : Type 0
 Never-out-of-place = (v : Word) → Spelled v → (u w : Word) (e : Event) → v ≡ u ++ (e ∷ w) → (isDamaged e ≡ false) × Begins (u ++ (e ∷ []))
+
+-- a word that leaves no node open and gives no cause cannot fail to be a condition
+abbrev pub Without-cause-spelled : Type 0
+Without-cause-spelled = (source : List ℕ) (v : Word) → NoCause source v → (v ≡ [] → ⊥) → opens 0 v ≡ 0 → (Spelled v → ⊥) → ⊥
+
+-- a condition that gives no cause for a refusal from 3 on gives none
+abbrev pub Spelled-without-cause : Type 0
+Spelled-without-cause =
+    (source : List ℕ) (v : Word) → Spelled v → ((i : ℕ) (r : Refusal) → Cause source v i r → 3 ≤ factsOf r .number → ⊥) → NoCause source v

@@ -88,10 +88,12 @@ abbrev pub signRefusal : Option Integer → Span → Option Refusal
 signRefusal None s = None
 signRefusal (Some i) s = refusalIn (negated i s)
 
+-- a refusal of bytes as text comes before any other
+abbrev pub textFirst : Result (List ℕ) Refusal → Option Refusal → Option Refusal
+textFirst (Ok bytes) o = o
+textFirst (Err r) o = Some r
+
 -- why a minus sign before a term is refused: its bytes are no text, or no number is so small
 unfoldable pub minusRefusal : List ℕ → Span → T → Option Refusal
-minusRefusal source s t = overBytes (textOf source (upTo s (tree-T source t)))
-  where
-    overBytes : Result (List ℕ) Refusal → Option Refusal
-    overBytes (Ok bytes) = signRefusal (integer-T source t) (upTo s (tree-T source t))
-    overBytes (Err r) = Some r
+minusRefusal source s t =
+    textFirst (textOf source (upTo s (tree-T source t))) (signRefusal (integer-T source t) (upTo s (tree-T source t)))

@@ -4,7 +4,7 @@ mod entry;
 pub use entry::Entry;
 ghost use Rattle.grammar.specs.Answers.{One-answer};
 ghost use Rattle.grammar.specs.Examples.{Examples};
-ghost use Rattle.grammar.specs.Laws.{One-reading, Nesting, One-cause, One-first-cause, Closed-is-whole, Never-out-of-place};
+ghost use Rattle.grammar.specs.Laws.{One-reading, Nesting, One-cause, One-first-cause, Closed-is-whole, Never-out-of-place, Without-cause-spelled, Spelled-without-cause};
 
 pub fn no_condition_has_two_readings()
     ensures { λ _. ⌜ One-reading ⌝ }
@@ -32,6 +32,14 @@ pub fn a_condition_is_never_out_of_place()
 
 pub fn worked_examples()
     ensures { λ _. ⌜ Examples ⌝ }
+{}
+
+pub fn what_closes_without_cause_is_spelled()
+    ensures { λ _. ⌜ Without-cause-spelled ⌝ }
+{}
+
+pub fn a_condition_within_its_limits_has_no_cause()
+    ensures { λ _. ⌜ Spelled-without-cause ⌝ }
 {}
 
 pub fn a_condition_has_one_answer()
