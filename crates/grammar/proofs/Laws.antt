@@ -17,9 +17,13 @@ use Rattle.grammar.proofs.Least.{Least, least-token, least-minus}
 use Rattle.grammar.proofs.OneCause.{neither}
 use Rattle.grammar.specs.Grammar.{spell-BE}
 use Rattle.grammar.specs.Conditions.{Spelled, Begins}
-use Rattle.grammar.specs.Laws.{Closed-is-whole, Never-out-of-place, Without-cause-spelled, Spelled-without-cause}
+use Rattle.grammar.specs.Laws.{Fronts-begin, Closed-is-whole, Never-out-of-place, Without-cause-spelled, Spelled-without-cause}
 use Rattle.grammar.proofs.Ends.{whole-front}
 use Rattle.grammar.proofs.Soundness.{Sound, sound-BE, sound-at}
+
+pub fronts-begin : Fronts-begin
+fronts-begin u w b =
+    record { value = b .value; more = w ++ b .more; spelled = b .spelled ∙ append-assoc u w (b .more) }
 
 pub closed-is-whole : Closed-is-whole
 closed-is-whole v b n o =

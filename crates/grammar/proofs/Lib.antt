@@ -8,3 +8,4 @@ pub mod Least
 pub mod Soundness
 pub mod Laws
 pub mod Worked
+pub mod Accepting

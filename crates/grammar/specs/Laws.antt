@@ -29,6 +29,10 @@ One-cause = (source : List ℕ) (v : Word) (i : ℕ) (r q : Refusal) → Cause s
 abbrev pub One-first-cause : Type 0
 One-first-cause = (source : List ℕ) (v : Word) (r q : Refusal) → FirstCause source v r → FirstCause source v q → r ≡ q
 
+-- a front of what begins a condition begins one
+abbrev pub Fronts-begin : Type 0
+Fronts-begin = (u w : Word) → Begins (u ++ w) → Begins u
+
 -- what begins a condition and leaves no node open is the whole condition
 abbrev pub Closed-is-whole : Type 0
 Closed-is-whole = (v : Word) → Begins v → (v ≡ [] → ⊥) → opens 0 v ≡ 0 → Spelled v

@@ -8,5 +8,6 @@ pub mod Tests
 pub mod Causes
 pub mod Extents
 pub mod Answers
+pub mod Acceptance
 pub mod Laws
 pub mod Examples
