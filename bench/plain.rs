@@ -48,7 +48,7 @@ fn mixed(sum: u64, event: Event) -> u64 {
         Event::Error(_, start, end) | Event::Begin(_, start, end) | Event::End(_, start, end) => (start, end, false),
     };
     let step = if trivia { 7 } else { 31 };
-    sum.wrapping_mul(step).wrapping_add(start as u64 ^ ((end as u64) << 20))
+    sum.wrapping_mul(step).wrapping_add(start as u64 ^ end as u64)
 }
 
 fn main() {

@@ -1,4 +1,5 @@
 pub mod Rows
+pub mod Tags
 pub mod Fronts
 pub mod OneWay
 pub mod RoundTrip

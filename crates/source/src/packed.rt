@@ -2,6 +2,7 @@ ghost use mathlib.Core.Path.{_≡_};
 ghost use Prim.Native.Nat.{_+_, _≤_, _<_, _^_};
 ghost use denote.Ref.{now};
 ghost use lib.ListN.{length};
+ghost use Rattle.syntax.specs.Spans.{spanOf};
 ghost use Rattle.source.specs.Meaning.{nextOf, restOf};
 ghost use Rattle.source.specs.Records.{eventOf};
 ghost use Rattle.source.specs.Reading.{twoAt, fourAt, contentOf, frontOf, eventsIn, closeIn, Read-one-way};
@@ -51,17 +52,31 @@ fn four(bytes: &[u8], at: usize) -> u32
     high * 65536 + low
 }
 
-// The event of a tag, a number and a span; none where the number is no kind's.
-fn event(tag: u8, number: u16, span: Span) -> Option<Event>
-    ensures { λ r. ⌜ r ≡ eventOf tag number span ⌝ }
+// The span of a whole record.
+fn span(bytes: &[u8]) -> Span
+    requires { ⌜ 13 ≤ length (now bytes) ⌝ }
+    ensures { λ r. ⌜ r ≡ spanOf (fourAt (now (bytes .entry)) 5) (fourAt (now (bytes .entry)) 9) ⌝ }
 {
+    Span {
+        start: four(bytes, 5),
+        end: four(bytes, 9),
+    }
+}
+
+// The event of a whole record with a tag; none where its number is no kind's.
+fn event(tag: u8, bytes: &[u8]) -> Option<Event>
+    requires { ⌜ 13 ≤ length (now bytes) ⌝ }
+    ensures { λ r. ⌜ r ≡ eventOf tag (twoAt (now (bytes .entry)) 3) (spanOf (fourAt (now (bytes .entry)) 5) (fourAt (now (bytes .entry)) 9)) ⌝ }
+{
+    let number = two(bytes, 3);
     if tag == 4 {
         return Some(Event::Error {
             message: number,
-            span,
+            span: span(bytes),
         });
     }
     let kind = SyntaxKind::from_number(number)?;
+    let span = span(bytes);
     match tag {
         1 => Some(Event::Begin { kind, span }),
         2 => Some(Event::End { kind, span }),
@@ -75,11 +90,7 @@ fn content(tag: u8, bytes: &[u8]) -> Next
     requires { ⌜ 13 ≤ length (now bytes) ⌝ }
     ensures { λ r. ⌜ r ≡ contentOf tag (now (bytes .entry)) ⌝ }
 {
-    let span = Span {
-        start: four(bytes, 5),
-        end: four(bytes, 9),
-    };
-    match event(tag, two(bytes, 3), span) {
+    match event(tag, bytes) {
         Some(event) => Next::Event(event),
         None => Next::Closed(Close::Fault(Fault::UnknownKind)),
     }

@@ -69,5 +69,5 @@ fn mixed(sum: u64, event: Event) -> u64 {
     let span = event.span();
     let step = if event.is_trivia() { 7 } else { 31 };
     sum.wrapping_mul(step)
-        .wrapping_add(u64::from(span.start) ^ (u64::from(span.end) << 20))
+        .wrapping_add(u64::from(span.start) ^ u64::from(span.end))
 }
