@@ -14,6 +14,7 @@ use Rattle.syntax.specs.declared.event.Event.{Event}
 use Rattle.source.specs.declared.close.Close.{Close}
 use Rattle.refusal.specs.Refusals.{factsOf}
 use Rattle.refusal.specs.declared.refusal.Refusal.{Refusal}
+use Rattle.kinds.proofs.Inverse.{and-both}
 use Rattle.tree.specs.Labels.{blankSlot}
 use Rattle.tree.specs.Layout.{layout}
 use Rattle.tree.specs.Memory.{fit}
@@ -77,14 +78,10 @@ only-comes (judged a f h j) t e =
 pub accepted-exactly : Accepted-exactly
 accepted-exactly source es c n = record { accepts = accepts source es c n; only = λ t l m. only-comes m t refl }
 
-both : (a b : Bool) → a && b ≡ true → (a ≡ true) × (b ≡ true)
-both true b h = (refl, h)
-both false b h = let z : _≡_ {A = ℕ} 0 1 = cc in absurd (omega arith)
-
 pub accepted-holds : Accepted-holds
 accepted-holds source es c n t slots text row errors count rest a =
     let w = only-comes (a .comes) t refl .1 in
-    let room = both (leb (size t) (n .slots)) (leb (length (textOf t)) (n .text)) (w .fitting) in
+    let room = and-both (leb (size t) (n .slots)) (leb (length (textOf t)) (n .text)) (w .fitting) in
     let S : List Slot → Type 0 = λ x. part.Within x 0 (layout t) in
     let X : List ℕ → Type 0 = λ x. part.Within x 0 (textOf t) in
     let slots-in = subst S (sym (a .slots-are)) (fit-within blankSlot (n .slots) (layout t) (omega (arith, leb-true _ _ (room .0), length-tree t 0 0 0))) in

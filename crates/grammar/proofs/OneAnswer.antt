@@ -21,17 +21,11 @@ use Rattle.grammar.specs.Built.{tree-BE}
 use Rattle.grammar.specs.Conditions.{Spelled}
 use Rattle.grammar.specs.Answers.{Lent, Outcome, accepted, refused, Judged, caused, over, full, read, Comes, none-begins, in-fault, too-long, judged, Answer, One-answer, entriesWith, fits, slotsOf, textIn, noEntry}
 use Rattle.grammar.proofs.Heads.{ap2}
-use Rattle.grammar.proofs.OneCause.{neither, first-same}
+use Rattle.grammar.proofs.OneCause.{neither, some-none, some-same, first-same}
 use Rattle.grammar.proofs.Unique.{same-BE}
 
 value-one : {v : Word} (s t : Spelled v) → s .value ≡ t .value
 value-one s t = same-BE (s .value) (t .value) [] [] (sym (s .spelled) ∙ t .spelled) .0
-
-some-none : {P : Type 0} {o : Option Fault} {f : Fault} → o ≡ Some f → o ≡ None → P
-some-none {P} {o} {f} a b = let z : _≡_ {A = ℕ} 0 1 = cc in absurd (omega arith)
-
-some-same : {o : Option Fault} {f g : Fault} → o ≡ Some f → o ≡ Some g → f ≡ g
-some-same {o} {f} {g} a b = cc
 
 judged-one : {source : List ℕ} {row : List Event} {w : Bool} {n : Lent} {o p : Outcome} {l m : List Entry} → Judged source row w n o l → Judged source row w n p m → (o ≡ p) × (l ≡ m)
 judged-one {row = row} (caused c) (caused d) =

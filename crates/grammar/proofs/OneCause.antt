@@ -22,11 +22,11 @@ use Rattle.grammar.proofs.Ends.{minus-same}
 pub neither : {P : Type 0} {b : Bool} → b ≡ true → b ≡ false → P
 neither t f = absurd (both-ways _ f t)
 
-some-none : {P : Type 0} {o : Option Refusal} {r : Refusal} → o ≡ Some r → o ≡ None → P
-some-none {P} {o} {r} s n = let z : _≡_ {A = ℕ} 0 1 = cc in absurd (omega arith)
+pub some-none : {A P : Type 0} {o : Option A} {x : A} → o ≡ Some x → o ≡ None → P
+some-none {A} {P} {o} {x} s n = let z : _≡_ {A = ℕ} 0 1 = cc in absurd (omega arith)
 
-some-same : {o : Option Refusal} {r q : Refusal} → o ≡ Some r → o ≡ Some q → r ≡ q
-some-same {o} {r} {q} a b = cc
+pub some-same : {A : Type 0} {o : Option A} {x y : A} → o ≡ Some x → o ≡ Some y → x ≡ y
+some-same {A} {o} {x} {y} a b = cc
 
 minus-one : (source : List ℕ) (w : Word) (r q : Refusal) → Minus source w r → Minus source w q → r ≡ q
 minus-one source w r q m n =
