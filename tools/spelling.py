@@ -86,8 +86,11 @@ def declared():
     return found
 
 
-def crate_of(path):
-    return path.split(os.sep)[1]
+def brought_in(text):
+    """The names that a file takes from elsewhere than this repository's crates."""
+    own = tuple("Rattle." + crate + "." for crate in os.listdir("crates"))
+    lists = re.findall(r"^\s*(?:pub )?(?:ghost )?use ([^\s{]+)\.\{([^}]*)\}", text, re.M)
+    return {word.strip() for path, words in lists if not path.startswith(own) for word in words.split(",")}
 
 
 def turn_text(text, names, made, fields):
@@ -132,7 +135,9 @@ def main(argv):
     fields = set(names)
     for path in files((".antt", ".rt")):
         text = read(path)
-        new = turn_text(text, names, is_made(path), fields)
+        outside = brought_in(text)
+        own = {old: new for old, new in names.items() if old not in outside}
+        new = turn_text(text, own, is_made(path), fields)
         if new != text:
             with open(path, "w", encoding="utf-8") as f:
                 f.write(new)

@@ -1,5 +1,5 @@
 -- Where nodes end: how many Ends of a word have no Begin in it.
-use Rattle.std.proofs.Common.{◌≡◌, ℕ, suc, ◌+◌, ◌-◌, ◌<◌, ◌≤◌, ◌⊎◌, List, [], ◌∷◌, ◌++◌, length, sym, refl, ap, ◌∙◌, inl, inr, arith, length_append}
+use Rattle.std.proofs.Common.{◌≡◌, ℕ, suc, ◌+◌, ◌-◌, ◌<◌, ◌≤◌, ◌⊎◌, List, [], ◌∷◌, ◌++◌, length, sym, refl, ap, ◌∙◌, inl, inr, arith, length-append}
 use Rattle.std.proofs.lemmas.List.{append_assoc}
 use Rattle.std.proofs.lemmas.Bool.Decides.{leb_tells}
 use Rattle.kinds.specs.declared.kind.SyntaxKind.{SyntaxKind}
@@ -40,7 +40,7 @@ nests_front (node {k = k} {s = s} {t = t} {v = v} i m) =
 -- of two fronts of a word the longer leaves a part of what the shorter leaves
 part_of : (x a z y : Word) → x ++ a ≡ z ++ y → length y ≤ length a → (w : Word) × (a ≡ w ++ y) × (z ≡ x ++ w)
 part_of [] a z y e l = (z, e, refl)
-part_of (c ∷ x) a [] y e l = absurd (omega (arith, ap length e, length_append x a))
+part_of (c ∷ x) a [] y e l = absurd (omega (arith, ap length e, length-append x a))
 part_of (c ∷ x) a (d ∷ z) y e l =
     let p = part_of x a z y (tails e) l in
     (p.0, p.1, ap2 (λ e u. e ∷ u) (sym (heads e)) p.2)
@@ -55,7 +55,7 @@ opens-++ n (Token k s ∷ u) w = opens-++ n u w
 -- what a front of a nested word leaves open, the rest of it closes
 closes : {u w : Word} → Nests u w → (n : ℕ) (z y : Word) → u ≡ z ++ y → length w ≤ length y → opens n z + unopened w ≡ n + unopened y
 closes (done {v = v}) n [] y e l = omega (arith, ap unopened e)
-closes (done {v = v}) n (c ∷ z) y e l = absurd (omega (arith, ap length e, length_append z y))
+closes (done {v = v}) n (c ∷ z) y e l = absurd (omega (arith, ap length e, length-append z y))
 closes (one m) n [] y e l = omega (arith, ap unopened e, nests_unopened m)
 closes (one {k = k} {s = s} m) n (c ∷ z) y e l =
     omega (arith, ap (λ d. opens n (d ∷ z)) (heads e), closes m n z y (tails e) l)
@@ -75,7 +75,7 @@ closes (node {k = k} {s = s} {t = t} {v = v} i m) n (c ∷ z) y e l =
 
 inner : {u w : Word} → Nests u w → (z y : Word) → u ≡ z ++ y → length w ≤ length y → unopened w ≤ unopened y
 inner (done {v = v}) [] y e l = omega (arith, ap unopened e)
-inner (done {v = v}) (c ∷ z) y e l = absurd (omega (arith, ap length e, length_append z y))
+inner (done {v = v}) (c ∷ z) y e l = absurd (omega (arith, ap length e, length-append z y))
 inner (one m) [] y e l = omega (arith, ap unopened e, nests_unopened m)
 inner (one m) (c ∷ z) y e l = inner m z y (tails e) l
 inner (node {k = k} {s = s} {t = t} {u = u} {v = v} i m) [] y e l = omega (arith, ap unopened e, nests_unopened i, nests_unopened m)

@@ -1,4 +1,4 @@
-use Rattle.std.proofs.Common.{◌≡◌, ℕ, Bool, true, false, not, ◌||◌, T, eqb, List, ◌∷◌, is_some, refl, ap, ◌∙◌, arith, eq_eqb}
+use Rattle.std.proofs.Common.{◌≡◌, ℕ, Bool, true, false, not, ◌||◌, T, eqb, List, ◌∷◌, is_some, refl, ap, ◌∙◌, arith, eq-eqb}
 use mathlib.Core.Path.{path_j}
 use Rattle.operators.specs.Levels.{level_of}
 use Rattle.syntax.specs.declared.span.Span.{Span}
@@ -61,7 +61,7 @@ apart_by true e t = let z : ◌≡◌ {A = ℕ} 0 1 = cc in absurd (omega arith)
 apart_by false e t = absurd t
 
 same_not : (a b : Event) → a ≡ b → differ a b ≡ false
-same_not a b e = ap (λ x. differ x b) e ∙ rw (eq_eqb (case_of b) (case_of b) refl, eq_eqb (kind_in b) (kind_in b) refl)
+same_not a b e = ap (λ x. differ x b) e ∙ rw (eq-eqb (case_of b) (case_of b) refl, eq-eqb (kind_in b) (kind_in b) refl)
 
 -- lists whose first events differ are not equal
 pub apart : {P : Type 0} {a b : Event} {u v : Word} → T (differ a b) → ◌≡◌ {A = Word} (a ∷ u) (b ∷ v) → P

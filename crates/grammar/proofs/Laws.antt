@@ -1,6 +1,6 @@
 -- The laws of conditions, proved.
 use Rattle.std.proofs.Common.{◌≡◌, ℕ, ◌≤◌, Bool, true, false, List, [], ◌∷◌, ◌++◌, length, sym, refl, ap, ◌∙◌, subst, arith, lit≤}
-use Rattle.std.proofs.lemmas.List.{append_assoc, append_nil}
+use Rattle.std.proofs.lemmas.List.{append_assoc, append-nil}
 use Rattle.syntax.specs.declared.event.Event.{Event}
 use Rattle.refusal.specs.Refusals.{facts_of}
 use Rattle.refusal.specs.declared.refusal.Refusal.{Refusal}
@@ -23,7 +23,7 @@ pub closed_is_whole : ClosedIsWhole
 closed_is_whole v b n o =
     record {
       value = b.value;
-      spelled = sym (b.spelled ∙ ap (λ w. v ++ w) (whole_front b.value v b.more b.spelled n o) ∙ append_nil v);
+      spelled = sym (b.spelled ∙ ap (λ w. v ++ w) (whole_front b.value v b.more b.spelled n o) ∙ append-nil v);
     }
 
 pub never_out_of_place : NeverOutOfPlace

@@ -1,5 +1,5 @@
 -- A kind and its name determine each other.
-use Rattle.std.proofs.Common.{◌≡◌, ℕ, zero, suc, ◌+◌, ◌<◌, ◌≤◌, Bool, true, false, cond, eqb, List, [], ◌∷◌, length, get_or, drop, Some, sym, refl, ap, ◌∙◌, suc-add, arith, eq_eqb, eqb-true}
+use Rattle.std.proofs.Common.{◌≡◌, ℕ, zero, suc, ◌+◌, ◌<◌, ◌≤◌, Bool, true, false, cond, eqb, List, [], ◌∷◌, length, get_or, drop, Some, sym, refl, ap, ◌∙◌, suc-add, arith, eq-eqb, eqb-true}
 use Rattle.std.proofs.lemmas.List.{drop_all}
 use Rattle.kinds.specs.Kinds.{number_of}
 use Rattle.kinds.specs.Names.{names, name_of, same_text, place_of}
@@ -139,7 +139,7 @@ name_place INVALID_UTF8 = refl
 
 same_self : (t : List ℕ) → same_text t t ≡ true
 same_self [] = refl
-same_self (b ∷ t) = rw (eq_eqb b b refl) (same_self t)
+same_self (b ∷ t) = rw (eq-eqb b b refl) (same_self t)
 
 same_true : (s t : List ℕ) → same_text s t ≡ true → s ≡ t
 same_true [] [] h = refl

@@ -1,5 +1,5 @@
 -- Parts of the source, and text among them.
-use Rattle.std.proofs.Common.{◌≡◌, ℕ, zero, suc, ◌+◌, ◌-◌, ◌^◌, ◌<◌, ◌≤◌, min, true, false, cond, eqb, List, [], ◌∷◌, ◌++◌, length, take, drop, Ok, Err, IsUtf8, sym, refl, ap, ◌∙◌, subst, inl, inr, ⊎_elim, arith, length_append, length-drop, length-take, eq_eqb, ne_eqb}
+use Rattle.std.proofs.Common.{◌≡◌, ℕ, zero, suc, ◌+◌, ◌-◌, ◌^◌, ◌<◌, ◌≤◌, min, true, false, cond, eqb, List, [], ◌∷◌, ◌++◌, length, take, drop, Ok, Err, IsUtf8, sym, refl, ap, ◌∙◌, subst, inl, inr, ⊎_elim, arith, length-append, length-drop, length-take, eq-eqb, ne_eqb}
 use lib.Utf8.{scalar, scalars, encode}
 use Rattle.std.specs.Str.{IsValidUpTo}
 use Rattle.std.specs.Char.{len_utf8}
@@ -56,7 +56,7 @@ pub is_prefix : (bs : List ℕ) (n : ℕ) → Longest bs n → n ≡ valid_prefi
 is_prefix bs n l = longest_same bs n (valid_prefix bs) l (longest bs)
 
 pub as_text : (bs : List ℕ) (s : Span) → IsUtf8 bs → Ok bs ≡ well_formed bs s
-as_text bs s u = let e = eq_eqb (valid_prefix bs) (length bs) (sym (is_prefix bs (length bs) (whole_longest bs u))) in sym (rw e)
+as_text bs s u = let e = eq-eqb (valid_prefix bs) (length bs) (sym (is_prefix bs (length bs) (whole_longest bs u))) in sym (rw e)
 
 pub no_text : (bs : List ℕ) (s : Span) (n : ℕ) → IsValidUpTo bs n → Err (InvalidUTF8 (place_in s n (n + 1))) ≡ well_formed bs s
 no_text bs s n v =
@@ -70,4 +70,4 @@ first_char bs rest c u e =
     let p = cons_from_encodes u.0 rest c (u.1.1 ∙ e) in
     let s = (and_parts (scalar c) (scalars p.0) (subst (λ cs. scalars cs ≡ true) p.1 u.1.0)).0 in
     let h = encode_shaped c s in
-    (ap char_bytes e ∙ char_found h.0 (encode c) rest h.1 h.2 ∙ length-encode c, omega (arith, ap length e, length_append (encode c) rest, length-encode c))
+    (ap char_bytes e ∙ char_found h.0 (encode c) rest h.1 h.2 ∙ length-encode c, omega (arith, ap length e, length-append (encode c) rest, length-encode c))

@@ -1,6 +1,6 @@
 -- The unescaper's loop reads what the text stands for.
-use Rattle.std.proofs.Common.{◌≡◌, ℕ, zero, suc, ◌+◌, ◌-◌, ◌*◌, ◌<◌, ◌≤◌, Bool, true, false, cond, eqb, List, [], ◌∷◌, ◌++◌, length, get_or, drop, set, Some, None, Ok, Err, Option, Result, sym, refl, ap, ◌∙◌, subst, ⊎_elim, append_assoc, append_nil, add-one, arith, length_append, length-drop, length-set, drop_cons, eq_eqb, ne_eqb, eqb-true}
-use borrow.Author.Tests.{eqb_false}
+use Rattle.std.proofs.Common.{◌≡◌, ℕ, zero, suc, ◌+◌, ◌-◌, ◌*◌, ◌<◌, ◌≤◌, Bool, true, false, cond, eqb, List, [], ◌∷◌, ◌++◌, length, get_or, drop, set, Some, None, Ok, Err, Option, Result, sym, refl, ap, ◌∙◌, subst, ⊎_elim, append_assoc, append-nil, add-one, arith, length-append, length-drop, length-set, drop-cons, eq-eqb, ne_eqb, eqb-true}
+use borrow.Author.Tests.{eqb-false}
 use Rattle.std.proofs.lemmas.List.{drop_all, set_past}
 use Rattle.std.proofs.lemmas.Bool.{cases_Bool}
 use Rattle.literal.specs.declared.unescape.State.{State}
@@ -96,7 +96,7 @@ emits Plain b d h rest e g = ⊎_elim
     (λ x. never (g ∙ ap (λ c. cond c (Go AfterBackslash) (Emit b)) x) (λ z. omega arith))
     (λ x. let k : Emit d ≡ Emit b = g ∙ ap (λ c. cond c (Go AfterBackslash) (Emit b)) x in
     let p : b ≡ d = cc in
-    ap (λ l. reading_from 0 (l ++ (b ∷ rest))) e ∙ read_plain b rest (eqb_false b 92 x) ∙ ap (λ c. put c (reading_from 0 rest)) p) (cases_Bool (eqb b 92))
+    ap (λ l. reading_from 0 (l ++ (b ∷ rest))) e ∙ read_plain b rest (eqb-false b 92 x) ∙ ap (λ c. put c (reading_from 0 rest)) p) (cases_Bool (eqb b 92))
 emits AfterBackslash b d h rest e g = on_simple (simple b) refl g
   where
     on_simple : (o : Option ℕ) → simple b ≡ o → Emit d ≡ or_else o (λ c. Emit c) (cond (eqb b 120) (Go AfterX) Bad) → reading_from 0 (h ++ (b ∷ rest)) ≡ put d (reading_from 0 rest)
@@ -164,7 +164,7 @@ started text start from = record { ds = []; held = []; holds = refl; small = tt;
 
 -- what is left, with its first byte
 turn : (text : List ℕ) (i : ℕ) → i < length text → drop i text ≡ get_or text i 0 ∷ drop (i + 1) text
-turn text i h = drop_cons text i 0 h ∙ ap (λ j. get_or text i 0 ∷ drop j text) (sym (add-one i))
+turn text i h = drop-cons text i 0 h ∙ ap (λ j. get_or text i 0 ∷ drop j text) (sym (add-one i))
 
 pub went : (text start : List ℕ) (from : ℕ) (s t : State) (n : ℕ) (out : List ℕ) (i : ℕ) → i < length text → Progress text start from s n out i → Go t ≡ step_of s (get_or text i 0) → Small t → Progress text start from t n out (i + 1)
 went text start from s t n out i h p g z =
@@ -175,7 +175,7 @@ went text start from s t n out i h p g z =
       holds = goes s t b p.held p.holds g;
       small = z;
       count = p.count;
-      few = omega (arith, p.few, length_append p.held (b ∷ []));
+      few = omega (arith, p.few, length-append p.held (b ∷ []));
       memory = p.memory;
       left = p.left ∙ ap (λ l. after p.ds (reading_from 0 (p.held ++ l))) (turn text i h) ∙ ap (λ l. after p.ds (reading_from 0 l)) (sym (append_assoc p.held (b ∷ []) (drop (i + 1) text)));
     }
@@ -204,7 +204,7 @@ emitted text start from s n d out out' i h p g m =
       held = [];
       holds = refl;
       small = tt;
-      count = omega (arith, p.count, length_append p.ds (d ∷ []));
+      count = omega (arith, p.count, length-append p.ds (d ∷ []));
       few = omega (arith, p.few);
       memory = m;
       left = p.left ∙ ap (λ l. after p.ds (reading_from 0 (p.held ++ l))) (turn text i h) ∙ ap (after p.ds) (emits s b d p.held (drop (i + 1) text) p.holds g)
@@ -225,12 +225,12 @@ known text start from out ds stop e m = record {
 }
 
 behind_none : (ds h : List ℕ) → after ds (stopped h) ≡ record { bytes = ds; stop = Some h }
-behind_none ds h = ap (λ l. record { bytes = l; stop = Some h }) (append_nil ds)
+behind_none ds h = ap (λ l. record { bytes = l; stop = Some h }) (append-nil ds)
 
 stopped_at : (text start : List ℕ) (from n : ℕ) (out : List ℕ) (s : State) (i at : ℕ) (p : Progress text start from s n out i) → i ≤ length text → at ≡ i - held_by s → reading_from 0 (p.held ++ drop i text) ≡ stopped (p.held ++ drop i text) → Ended text start from out (Err at)
 stopped_at text start from n out s i at p h e w =
     let rest = p.held ++ drop i text in
-    let l : length text - length rest ≡ at = omega (arith, length_append p.held (drop i text), length-drop i text, held_length s p.held p.holds, p.few) in
+    let l : length text - length rest ≡ at = omega (arith, length-append p.held (drop i text), length-drop i text, held_length s p.held p.holds, p.few) in
     subst (λ k. Ended text start from out (Err k)) l (known text start from out p.ds (Some rest) (p.left ∙ ap (after p.ds) w ∙ behind_none p.ds rest) p.memory)
 
 pub bad_at : (text start : List ℕ) (from n : ℕ) (out : List ℕ) (s : State) (i at : ℕ) → i < length text → Progress text start from s n out i → at ≡ i - held_by s → Bad ≡ step_of s (get_or text i 0) → Ended text start from out (Err at)
@@ -242,7 +242,7 @@ pub cut_at : (text start : List ℕ) (from n : ℕ) (out : List ℕ) (s : State)
 cut_at text start from n out s i at h p e g =
     let d = drop_all i text (omega arith) in
     stopped_at text start from n out s i at p (omega arith) e
-    (subst (λ l. reading_from 0 (p.held ++ l) ≡ stopped (p.held ++ l)) (sym d) (subst (λ l. reading_from 0 l ≡ stopped l) (sym (append_nil p.held)) (unended s p.held p.holds g)))
+    (subst (λ l. reading_from 0 (p.held ++ l) ≡ stopped (p.held ++ l)) (sym d) (subst (λ l. reading_from 0 l ≡ stopped l) (sym (append-nil p.held)) (unended s p.held p.holds g)))
 
 pub whole : (text start : List ℕ) (from n : ℕ) (out : List ℕ) (s : State) (i : ℕ) → length text ≤ i → Progress text start from s n out i → s ≡ Plain → Ended text start from out (Ok n)
 unfolding reading_from
@@ -250,7 +250,7 @@ whole text start from n out s i h p e =
     let d = drop_all i text h in
     let q : p.held ≡ [] = subst (λ t. Held t p.held) e p.holds in
     let w : reading text ≡ record { bytes = p.ds; stop = None } =
-    p.left ∙ ap (λ l. after p.ds (reading_from 0 (p.held ++ l))) d ∙ ap (λ l. after p.ds (reading_from 0 (l ++ []))) q ∙ ap (λ l. record { bytes = l; stop = None }) (append_nil p.ds) in
+    p.left ∙ ap (λ l. after p.ds (reading_from 0 (p.held ++ l))) d ∙ ap (λ l. after p.ds (reading_from 0 (l ++ []))) q ∙ ap (λ l. record { bytes = l; stop = None }) (append-nil p.ds) in
     subst (λ k. Ended text start from out (Ok k)) (sym p.count) (known text start from out p.ds None w p.memory)
 
 -- the same with other names for state, count and memory

@@ -1,8 +1,8 @@
 -- The front that `valid_prefix` measures is made of whole characters, and is the longest that is.
-use Rattle.std.proofs.Common.{◌≡◌, ℕ, zero, suc, ◌+◌, ◌-◌, ◌<◌, ◌≤◌, Bool, true, false, cond, ◌&&◌, ltb, leb, ◌⊎◌, List, [], ◌∷◌, ◌++◌, length, take, drop, sym, refl, ap, ◌∙◌, subst, inl, inr, ⊎_elim, append_assoc, append_nil, add_assoc, zero-add, arith, length_append, length-drop, take-append-drop, length-take, take-add, le_leb, leb_false, leb_true}
+use Rattle.std.proofs.Common.{◌≡◌, ℕ, zero, suc, ◌+◌, ◌-◌, ◌<◌, ◌≤◌, Bool, true, false, cond, ◌&&◌, ltb, leb, ◌⊎◌, List, [], ◌∷◌, ◌++◌, length, take, drop, sym, refl, ap, ◌∙◌, subst, inl, inr, ⊎_elim, append_assoc, append-nil, add_assoc, zero-add, arith, length-append, length-drop, take-append-drop, length-take, take-add, le-leb, leb-false, leb-true}
 use lib.Seq.{drop-append_seam}
 use Rattle.std.proofs.lemmas.List.{take-append-le}
-use borrow.Author.Tests.{lt_leb, both_ways}
+use borrow.Author.Tests.{lt-leb, both_ways}
 use Rattle.std.proofs.lemmas.Bool.{and_parts, and_from, cases_Bool, and_left, and_right}
 use Rattle.literal.specs.Utf8.{Range, forms, OneOf, Follows, Characters, none, more, begins, bytes_by, char_bytes, valid_from, valid_prefix, Longest}
 
@@ -25,13 +25,13 @@ first_above : (n : ℕ) (fs : List (List Range)) (form : List Range) (bs : List 
 first_above n [] form bs a o f = absurd o
 first_above n ([] ∷ fs) form bs a o f = no a
 first_above n ((r ∷ rs) ∷ fs) form [] a (inl e) f = absurd (rw e at f)
-first_above n ((r ∷ rs) ∷ fs) form (b ∷ bs) a (inl e) f = let g : Follows (r ∷ rs) (b ∷ bs) = rw e at f in (b, bs, refl, omega (arith, leb_true n r.0 (and_parts _ _ a).0, g.0))
+first_above n ((r ∷ rs) ∷ fs) form (b ∷ bs) a (inl e) f = let g : Follows (r ∷ rs) (b ∷ bs) = rw e at f in (b, bs, refl, omega (arith, leb-true n r.0 (and_parts _ _ a).0, g.0))
 first_above n ((r ∷ rs) ∷ fs) form bs a (inr o) f = first_above n fs form bs (and_parts (leb n r.0) (above n fs) a).1 o f
 
 follows_begins : (form : List Range) (bs ys : List ℕ) → Follows form bs → begins form (bs ++ ys) ≡ true
 follows_begins [] bs ys f = refl
 follows_begins (r ∷ rs) [] ys f = absurd f
-follows_begins (r ∷ rs) (b ∷ bs) ys f = let x = le_leb r.0 b f.0 in let y = le_leb b r.1 f.1 in let z = follows_begins rs bs ys f.2 in rw (x, y, z)
+follows_begins (r ∷ rs) (b ∷ bs) ys f = let x = le-leb r.0 b f.0 in let y = le-leb b r.1 f.1 in let z = follows_begins rs bs ys f.2 in rw (x, y, z)
 
 follows_length : (form : List Range) (bs : List ℕ) → Follows form bs → length form ≡ length bs
 follows_length [] [] f = refl
@@ -40,7 +40,7 @@ follows_length (r ∷ rs) [] f = absurd f
 follows_length (r ∷ rs) (b ∷ bs) f = ap suc (follows_length rs bs f.2)
 
 passed : (r : Range) (rs : List Range) (b : ℕ) (bs : List ℕ) → r.1 < b → begins (r ∷ rs) (b ∷ bs) ≡ false
-passed r rs b bs h = let x = lt_leb b r.1 h in and_left (leb r.0 b && leb b r.1) (begins rs bs) (and_right (leb r.0 b) (leb b r.1) x)
+passed r rs b bs h = let x = lt-leb b r.1 h in and_left (leb r.0 b && leb b r.1) (begins rs bs) (and_right (leb r.0 b) (leb b r.1) x)
 
 -- the row that bytes follow is the one that is found
 found : (fs : List (List Range)) (form : List Range) (bs ys : List ℕ) → rising fs ≡ true → OneOf form fs → Follows form bs → bytes_by fs (bs ++ ys) ≡ length bs
@@ -68,7 +68,7 @@ begins_follows (r ∷ rs) (b ∷ bs) e =
     let p = and_parts (leb r.0 b && leb b r.1) (begins rs bs) e in
     let q = and_parts (leb r.0 b) (leb b r.1) p.0 in
     let s = begins_follows rs bs p.1 in
-    ((leb_true _ _ q.0, leb_true _ _ q.1, s.0), omega (arith, s.1))
+    ((leb-true _ _ q.0, leb-true _ _ q.1, s.0), omega (arith, s.1))
 
 abbrev Found : List (List Range) → List ℕ → ℕ → Type 0
 Found fs bs n = (form : List Range) × OneOf form fs × Follows form (take n bs) × (n ≤ length bs)
@@ -103,7 +103,7 @@ step (b ∷ bs) ys k l e =
     let j : k ≡ length bs = omega arith in
     let d : drop k (bs ++ ys) ≡ ys = ap (λ n. drop n (bs ++ ys)) j ∙ drop-append_seam bs ys in
     ap (λ n. elim n [ zero ↦ 0 | suc m ↦ 1 + valid_from m (bs ++ ys) ]) e
-    ∙ ap (λ n. 1 + n) (skip k (bs ++ ys) (omega (arith, length_append bs ys)) ∙ ap (λ l'. k + valid_from 0 l') d)
+    ∙ ap (λ n. 1 + n) (skip k (bs ++ ys) (omega (arith, length-append bs ys)) ∙ ap (λ l'. k + valid_from 0 l') d)
     ∙ omega arith
 
 -- where no character begins, the front ends
@@ -132,7 +132,7 @@ front_more (more {form} bs rest o f c e) ys =
     ∙ ap valid_prefix (append_assoc bs rest ys)
     ∙ by_step form bs (rest ++ ys) (length bs) o f refl (some forms form bs refl o f)
     ∙ ap (λ n. length bs + n) (front_more c ys)
-    ∙ omega (arith, ap length e, length_append bs rest)
+    ∙ omega (arith, ap length e, length-append bs rest)
 
 -- ---- the law
 
@@ -155,7 +155,7 @@ one_more bs n h e w =
     let l : length t ≡ n = omega (arith, length-take n bs, g.3) in
     let v : valid_prefix (t ++ d) ≡ length t + valid_prefix d = by_step g.0 t d (length t) g.1 g.2 refl (omega arith) in
     subst Whole (take-append-drop n bs)
-    (rw v (subst Characters (sym (take_seam t d (valid_prefix d))) (more t (take (valid_prefix d) d) g.1 g.2 w.0 refl), omega (arith, w.1, length_append t d)))
+    (rw v (subst Characters (sym (take_seam t d (valid_prefix d))) (more t (take (valid_prefix d) d) g.1 g.2 w.0 refl), omega (arith, w.1, length-append t d)))
 
 fronts : (m : ℕ) (bs : List ℕ) → length bs ≤ m → Whole bs
 fronts zero [] h = nothing_more [] refl

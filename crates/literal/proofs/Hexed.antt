@@ -1,6 +1,6 @@
 -- Strings and floats read back what they write.
-use Rattle.std.proofs.Common.{◌≡◌, ℕ, zero, suc, ◌+◌, ◌-◌, ◌*◌, ◌/◌, ◌%◌, ◌<◌, ◌≤◌, Bool, true, false, cond, ◌&&◌, eqb, ltb, leb, List, [], ◌∷◌, ◌++◌, length, get_or, take, drop, Some, None, Ok, Err, Option, sym, refl, ap, ◌∙◌, subst, ⊎_elim, append_nil, arith, length_append, ltb-true, le_ltb, lt_ltb, eq_eqb, ne_eqb, eqb-true, le_leb}
-use borrow.Author.Tests.{lt_leb}
+use Rattle.std.proofs.Common.{◌≡◌, ℕ, zero, suc, ◌+◌, ◌-◌, ◌*◌, ◌/◌, ◌%◌, ◌<◌, ◌≤◌, Bool, true, false, cond, ◌&&◌, eqb, ltb, leb, List, [], ◌∷◌, ◌++◌, length, get_or, take, drop, Some, None, Ok, Err, Option, sym, refl, ap, ◌∙◌, subst, ⊎_elim, append-nil, arith, length-append, ltb-true, le-ltb, lt-ltb, eq-eqb, ne_eqb, eqb-true, le-leb}
+use borrow.Author.Tests.{lt-leb}
 use Rattle.std.specs.Option.{option_map}
 use Rattle.std.specs.Char.{digit_value, digit_char}
 use Rattle.std.proofs.lemmas.Bool.{cases_lt, and_from, and_parts, and_left, and_right, cases_Bool}
@@ -21,9 +21,9 @@ use Rattle.literal.proofs.Standing.{complete}
 
 hex_digit : (d : ℕ) → d < 16 → hex_of (digit_char d) ≡ Some d
 hex_digit d h = ⊎_elim
-    (λ (l : d < 10). let x = lt_ltb d 10 l in let a = le_leb 48 (48 + d) (omega arith) in let b = le_leb (48 + d) 57 (omega arith) in
+    (λ (l : d < 10). let x = lt-ltb d 10 l in let a = le-leb 48 (48 + d) (omega arith) in let b = le-leb (48 + d) 57 (omega arith) in
     ap (λ t. hex_of (cond t (48 + d) (87 + d))) x ∙ rw (a, b) (ap Some (omega arith)))
-    (λ (l : 10 ≤ d). let x = le_ltb d 10 l in let a = le_leb 48 (87 + d) (omega arith) in let b = lt_leb (87 + d) 57 (omega arith) in let c = le_leb 97 (87 + d) (omega arith) in let e = le_leb (87 + d) 102 (omega arith) in
+    (λ (l : 10 ≤ d). let x = le-ltb d 10 l in let a = le-leb 48 (87 + d) (omega arith) in let b = lt-leb (87 + d) 57 (omega arith) in let c = le-leb 97 (87 + d) (omega arith) in let e = le-leb (87 + d) 102 (omega arith) in
     ap (λ t. hex_of (cond t (48 + d) (87 + d))) x ∙ rw (a, b, c, e) (ap Some (omega arith))) (cases_lt d 10)
 
 stands : (bs : List ℕ) → Bytes bs → Stands (all_as_hex bs) bs
@@ -34,7 +34,7 @@ stands (b ∷ bs) u =
 
 whole_reading : (bs : List ℕ) → Bytes bs → reading (all_as_hex bs) ≡ record { bytes = bs; stop = None }
 unfolding reading_from
-whole_reading bs u = ap reading (sym (append_nil (all_as_hex bs))) ∙ complete (stands bs u) [] ∙ ap (λ l. record { bytes = l; stop = None }) (append_nil bs)
+whole_reading bs u = ap reading (sym (append-nil (all_as_hex bs))) ∙ complete (stands bs u) [] ∙ ap (λ l. record { bytes = l; stop = None }) (append-nil bs)
 
 -- ---- quotes
 
@@ -52,10 +52,10 @@ take_whole (x ∷ xs) = ap (λ l. x ∷ l) (take_whole xs)
 bounded : (x : ℕ) (xs : List ℕ) → (x ≡ 34 → ⊥) → inner (34 ∷ ((x ∷ xs) ++ (34 ∷ []))) ≡ Some (1, x ∷ xs)
 bounded x xs n =
     let t = 34 ∷ ((x ∷ xs) ++ (34 ∷ [])) in
-    let l : length t ≡ suc (suc (suc (length xs))) = omega (arith, length_append (x ∷ xs) (34 ∷ [])) in
+    let l : length t ≡ suc (suc (suc (length xs))) = omega (arith, length-append (x ∷ xs) (34 ∷ [])) in
     let o : opens_three t ≡ false = and_left (eqb x 34) _ (ne_eqb x 34 n) in
-    let h : leb 2 (length t) ≡ true = le_leb 2 (length t) (omega arith) in
-    let z : eqb (get_or t (length t - 1) 0) 34 ≡ true = eq_eqb _ 34 (last_quote 34 (x ∷ xs)) in
+    let h : leb 2 (length t) ≡ true = le-leb 2 (length t) (omega arith) in
+    let z : eqb (get_or t (length t - 1) 0) 34 ≡ true = eq-eqb _ 34 (last_quote 34 (x ∷ xs)) in
     let q : quoted t ≡ true = and_from _ _ h z in
     let m : length t - 2 ≡ length (x ∷ xs) = omega arith in
     rw (o, q) (ap (λ k. Some (1, k)) (ap (λ j. take j ((x ∷ xs) ++ (34 ∷ []))) m ∙ take_whole (x ∷ xs)))
@@ -105,7 +105,7 @@ known : (t w f : List ℕ) (s : Span) → whole (without t) ≡ w → fraction (
 known t w f s p q a h =
     ap (λ x. or_else (option_map (λ d. (d, length (fraction (without t)))) (written 10 (x ++ fraction (without t)))) (λ p. rounded p s) (Err (InvalidFloat s))) p
     ∙ ap (λ x. or_else (option_map (λ d. (d, length x)) (written 10 (w ++ x))) (λ p. rounded p s) (Err (InvalidFloat s))) q
-    ∙ ap (λ b. or_else (option_map (λ d. (d, length f)) (cond b (Some (number_of 10 (w ++ f))) None)) (λ p. rounded p s) (Err (InvalidFloat s))) (and_from _ _ a (lt_ltb 0 (length (w ++ f)) h))
+    ∙ ap (λ b. or_else (option_map (λ d. (d, length f)) (cond b (Some (number_of 10 (w ++ f))) None)) (λ p. rounded p s) (Err (InvalidFloat s))) (and_from _ _ a (lt-ltb 0 (length (w ++ f)) h))
 
 pub decimals : DecimalsReadBack
 decimals = record {
@@ -116,6 +116,6 @@ decimals = record {
   undotted = λ w t s a h sp.
       let u : without t ≡ w = spread_without (free_digits 10 95 w a (omega arith) (omega arith)) sp in
       let p = whole_all w (no_dot w a) in
-      let n = append_nil w in
+      let n = append-nil w in
       known t w [] s (ap whole u ∙ p.0) (ap fraction u ∙ p.1) (digits_append w [] a refl) (omega (arith, ap length n)) ∙ ap (λ l. rounded (number_of 10 l, 0) s) n;
 }

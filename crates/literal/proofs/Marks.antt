@@ -1,7 +1,7 @@
 -- Slashes and modifiers of regular expressions.
-use Rattle.std.proofs.Common.{◌≡◌, ℕ, zero, suc, ◌+◌, ◌-◌, ◌<◌, ◌≤◌, Bool, true, false, cond, ◌&&◌, ◌||◌, eqb, List, [], ◌∷◌, ◌++◌, length, get_or, take, drop, Some, None, Ok, Err, IsUtf8, Option, sym, refl, ap, ◌∙◌, subst, add-one, arith, length_append, length-drop, length-take, drop_cons, eq_eqb, ne_eqb}
+use Rattle.std.proofs.Common.{◌≡◌, ℕ, zero, suc, ◌+◌, ◌-◌, ◌<◌, ◌≤◌, Bool, true, false, cond, ◌&&◌, ◌||◌, eqb, List, [], ◌∷◌, ◌++◌, length, get_or, take, drop, Some, None, Ok, Err, IsUtf8, Option, sym, refl, ap, ◌∙◌, subst, add-one, arith, length-append, length-drop, length-take, drop-cons, eq-eqb, ne_eqb}
 use lib.Utf8.{encode}
-use borrow.Author.Tests.{eqb_false}
+use borrow.Author.Tests.{eqb-false}
 use Rattle.std.proofs.lemmas.List.{take_more, take_all}
 use Rattle.std.specs.Option.{option_map}
 use Rattle.std.specs.Char.{len_utf8}
@@ -24,7 +24,7 @@ pub left_start : (room at : ℕ) (tail : List ℕ) → IsUtf8 tail → at + leng
 left_start room at tail u h = record { text = u; bound = h; bad = refl; has_i = refl; has_s = refl }
 
 shorter : (bs rest : List ℕ) (c n at : ℕ) → bs ≡ encode c ++ rest → at + length bs ≤ n → (at + 1 + length rest ≤ n) × (at + len_utf8 c ≤ n)
-shorter bs rest c n at e h = let w = len_utf8_bounds c in (omega (arith, ap length e, length_append (encode c) rest, length-encode c), omega (arith, ap length e, length_append (encode c) rest, length-encode c))
+shorter bs rest c n at e h = let w = len_utf8_bounds c in (omega (arith, ap length e, length-append (encode c) rest, length-encode c), omega (arith, ap length e, length-append (encode c) rest, length-encode c))
 
 or_true : (b : Bool) → (b || true) ≡ true
 or_true true = refl
@@ -94,7 +94,7 @@ slash_turn bytes i h =
 pub slash_here : (bytes : List ℕ) (j : ℕ) → 0 < j → j ≤ length bytes → last_slash bytes ≡ last_slash (take j bytes) → get_or bytes (j - 1) 0 ≡ 47 → Some (j - 1) ≡ last_slash bytes
 slash_here bytes j z h w e =
     let n : j - 1 + 1 ≡ j = omega arith in
-    let x = eq_eqb (get_or bytes (j - 1) 0) 47 e in
+    let x = eq-eqb (get_or bytes (j - 1) 0) 47 e in
     sym (w ∙ ap (λ m. last_slash (take m bytes)) (sym n) ∙ slash_turn bytes (j - 1) (omega arith) ∙ rw x)
 
 pub slash_before : (bytes : List ℕ) (j : ℕ) → 0 < j → j ≤ length bytes → last_slash bytes ≡ last_slash (take j bytes) → (get_or bytes (j - 1) 0 ≡ 47 → ⊥) → last_slash bytes ≡ last_slash (take (j - 1) bytes)
@@ -105,7 +105,7 @@ slash_before bytes j z h w e =
 
 pub closing_from : (re : List ℕ) (o : Option ℕ) → 0 < length re → get_or re 0 0 ≡ 47 → o ≡ last_slash (drop 1 re) → closing re ≡ option_map suc o
 closing_from [] o h e w = absurd (omega arith)
-closing_from (b ∷ bs) o h e w = let x = eq_eqb b 47 e in rw x (ap (option_map suc) (sym w))
+closing_from (b ∷ bs) o h e w = let x = eq-eqb b 47 e in rw x (ap (option_map suc) (sym w))
 
 pub left_cast : {room start : ℕ} {tail : List ℕ} {at : ℕ} {i s i' s' : Bool} {rest : List ℕ} → Left room start tail at i s rest → i' ≡ i → s' ≡ s → Left room start tail at i' s' rest
 left_cast {room} {start} {tail} {at} {i} {s} {i'} {s'} {rest} l p q = subst (λ x. Left room start tail at x s' rest) (sym p) (subst (λ x. Left room start tail at i x rest) (sym q) l)
@@ -117,7 +117,7 @@ pub closed : (re : List ℕ) (o : Option ℕ) → (eqb (length re) 0 ≡ false) 
 closed re o z e w = mapped_suc o ∙ sym (closing_from re o (some re z) e (w ∙ ap last_slash (behind_first re)))
   where
     some : (re : List ℕ) → eqb (length re) 0 ≡ false → 0 < length re
-    some re z = let h = eqb_false (length re) 0 z in omega arith
+    some re z = let h = eqb-false (length re) 0 z in omega arith
 
     mapped_suc : (o : Option ℕ) → option_map (λ n. n + 1) o ≡ option_map suc o
     mapped_suc None = refl
@@ -144,4 +144,4 @@ allowed s at cs i d h =
     ∙ sym (ap (λ o. or_else o (λ p. Err (InvalidModifier (place_in s p.0 p.1))) (Ok (has 105 cs, has 115 cs))) h.0)
 
 pub has_turn : (x : ℕ) (text : List ℕ) (i : ℕ) → i < length text → has x (drop i text) ≡ (eqb (get_or text i 0) x || has x (drop (i + 1) text))
-has_turn x text i h = ap (has x) (drop_cons text i 0 h) ∙ ap (λ j. eqb (get_or text i 0) x || has x (drop j text)) (sym (add-one i))
+has_turn x text i h = ap (has x) (drop-cons text i 0 h) ∙ ap (λ j. eqb (get_or text i 0) x || has x (drop j text)) (sym (add-one i))

@@ -1,7 +1,7 @@
 -- Integers read back what they write.
-use Rattle.std.proofs.Common.{◌≡◌, ℕ, zero, suc, ◌+◌, ◌-◌, ◌*◌, ◌^◌, ◌<◌, ◌≤◌, Bool, true, false, cond, ◌&&◌, eqb, ltb, leb, List, [], ◌∷◌, ◌++◌, map, length, get_or, take, ℤ, pos, negsuc, ◌-ℤ◌, neg_ℤ, Some, None, Ok, Err, Option, sym, refl, ap, ◌∙◌, subst, ⊎_elim, zero-mul, mul-one, arith, ltb-true, le_ltb, lt_ltb, eq_eqb, ne_eqb, eqb-true, le_leb}
+use Rattle.std.proofs.Common.{◌≡◌, ℕ, zero, suc, ◌+◌, ◌-◌, ◌*◌, ◌^◌, ◌<◌, ◌≤◌, Bool, true, false, cond, ◌&&◌, eqb, ltb, leb, List, [], ◌∷◌, ◌++◌, map, length, get_or, take, ℤ, pos, negsuc, ◌-ℤ◌, neg_ℤ, Some, None, Ok, Err, Option, sym, refl, ap, ◌∙◌, subst, ⊎_elim, zero-mul, mul-one, arith, ltb-true, le-ltb, lt-ltb, eq-eqb, ne_eqb, eqb-true, le-leb}
 use native.Mathlib.Nat.{pow-zero}
-use borrow.Author.Tests.{eqb_false, lt_leb}
+use borrow.Author.Tests.{eqb-false, lt-leb}
 use Rattle.std.specs.Option.{option_map, ok_or}
 use Rattle.std.specs.Str.Parse.{digits_value, digits_value_after}
 use Rattle.std.specs.Char.{digit_value, digit_char}
@@ -29,7 +29,7 @@ number_value base ds = sym (horner base 0 ds ∙ omega (arith, zero-mul (base ^ 
 
 digits_under : (base : ℕ) (ds : List ℕ) → AllBelowBase base (map digit_value ds) → are_digits base ds ≡ true
 digits_under base [] u = refl
-digits_under base (d ∷ ds) u = and_from (ltb (digit_value d) base) (are_digits base ds) (lt_ltb (digit_value d) base u.0) (digits_under base ds u.1)
+digits_under base (d ∷ ds) u = and_from (ltb (digit_value d) base) (are_digits base ds) (lt-ltb (digit_value d) base u.0) (digits_under base ds u.1)
 
 length_map : (ds : List ℕ) → length (map digit_value ds) ≡ length ds
 length_map [] = refl
@@ -46,7 +46,7 @@ numeral base n ds h w = ⊎_elim nought more (cases_eq n 0)
   where
     nought : n ≡ 0 → Numeral base n ds
     nought e =
-        let x = eq_eqb n 0 e in
+        let x = eq-eqb n 0 e in
         let v : map digit_value ds ≡ 0 ∷ [] = w ∙ ap (λ b. cond b (0 ∷ []) (digits_of base n)) x in
         record {
           under_base = digits_under base ds (subst (AllBelowBase base) (sym v) (omega arith, tt));
@@ -67,7 +67,7 @@ numeral base n ds h w = ⊎_elim nought more (cases_eq n 0)
 pub numeral_written : (base n : ℕ) (ds : List ℕ) → 2 ≤ base → Writes base n ds → written base ds ≡ Some n
 numeral_written base n ds h w =
     let m = numeral base n ds h w in
-    ap (λ b. cond b (Some (number_of base ds)) None) (and_from _ _ m.under_base (lt_ltb 0 (length ds) m.some)) ∙ ap Some m.value_of
+    ap (λ b. cond b (Some (number_of base ds)) None) (and_from _ _ m.under_base (lt-ltb 0 (length ds) m.some)) ∙ ap Some m.value_of
 
 -- ---- characters that do not occur
 
@@ -124,7 +124,7 @@ reads t n h k m e s =
     let u = unsized t k m in
     let f : integer_number t ≡ Some n =
     ap (λ b. option_map (λ x. x * factor t) (plain_number b)) u.0 ∙ ap (option_map (λ x. x * factor t)) e ∙ ap (λ z. Some (n * z)) u.1 ∙ ap Some (mul-one n) in
-    let l = le_leb n (2 ^ 64 - 1) (omega arith) in
+    let l = le-leb n (2 ^ 64 - 1) (omega arith) in
     ap (λ o. ok_or (option_map (λ x. literal x (place_in s 0 (length (before t)))) (up_to (2 ^ 64 - 1) o)) (InvalidInteger s)) f
     ∙ ap (λ b. ok_or (option_map (λ x. literal x (place_in s 0 (length (before t)))) (cond b (Some n) None)) (InvalidInteger s)) l
     ∙ ap (λ b. Ok (literal n (place_in s 0 (length b)))) u.0
@@ -164,7 +164,7 @@ characters base (d ∷ ds) h u = ap (λ c. c ∷ map digit_value (map digit_char
 
 some_writing : (base n : ℕ) → 2 ≤ base → base ≤ 36 → (ds : List ℕ) × Writes base n ds
 some_writing base n l h = ⊎_elim
-    (λ e. (48 ∷ [], sym (ap (λ b. cond b (0 ∷ []) (digits_of base n)) (eq_eqb n 0 e))))
+    (λ e. (48 ∷ [], sym (ap (λ b. cond b (0 ∷ []) (digits_of base n)) (eq-eqb n 0 e))))
     (λ e. (map digit_char (digits_of base n), characters base (digits_of base n) h (all_below_base_digits_of base n l) ∙ sym (ap (λ b. cond b (0 ∷ []) (digits_of base n)) (ne_eqb n 0 e)))) (cases_eq n 0)
 
 pub integers : IntegersReadBack
@@ -175,9 +175,9 @@ integers = record { writes = some_writing; decimal = decimal; hexadecimal = hexa
 folds_signed : (n : ℕ) (name s : Span) → 0 < n → n < 2 ^ 63 → negated (literal n name) s ≡ Ok (Some (record { value = neg_ℤ (pos n); unsigned = false; name = s }))
 folds_signed zero name s z h = absurd (omega arith)
 folds_signed (suc n) name s z h =
-    let x = lt_ltb (suc n) (2 ^ 63) h in
-    let y = lt_leb (2 ^ 63) (suc n) h in
-    let w = lt_ltb 0 (suc n) (omega arith) in
+    let x = lt-ltb (suc n) (2 ^ 63) h in
+    let y = lt-leb (2 ^ 63) (suc n) h in
+    let w = lt-ltb 0 (suc n) (omega arith) in
     rw (y, x, w)
 
 folds_least : (name s : Span) → negated (literal (2 ^ 63) name) s ≡ Ok (Some (record { value = neg_ℤ (pos (2 ^ 63)); unsigned = false; name = s }))
@@ -190,13 +190,13 @@ folds n name s z h = ⊎_elim
 
 high_pattern : (n : ℕ) → 2 ^ 63 ≤ n → n < 2 ^ 64 → pattern n ≡ negsuc (2 ^ 64 - suc n)
 high_pattern n h l =
-    let x = le_ltb n (2 ^ 63) h in
-    let y = lt_ltb n (2 ^ 64) l in
+    let x = le-ltb n (2 ^ 63) h in
+    let y = lt-ltb n (2 ^ 64) l in
     ap (λ b. cond b (pos n) (pos n -ℤ pos (2 ^ 64))) x ∙ ap (λ b. cond b (negsuc (2 ^ 64 - suc n)) (pos (n - 2 ^ 64))) y
 
 pub refuses : (n : ℕ) (name s : Span) → 2 ^ 63 < n → n < 2 ^ 64 → negated (literal n name) s ≡ Err (InvalidInteger s)
 refuses n name s h l =
-    let x = le_leb (2 ^ 63) n (omega arith) in
+    let x = le-leb (2 ^ 63) n (omega arith) in
     let v = high_pattern n (omega arith) l in
     let z : is_least (pattern n) ≡ false = ap is_least v ∙ ne_eqb (2 ^ 64 - suc n) (2 ^ 63 - 1) (λ e. omega arith) in
     ap (λ b. cond b (cond (is_least (pattern n)) (Ok (Some (record { value = pattern n; unsigned = false; name = s }))) (Err (InvalidInteger s))) (cond (is_positive (pattern n)) (Ok (Some (record { value = neg_ℤ (pattern n); unsigned = false; name = s }))) (Ok None))) x

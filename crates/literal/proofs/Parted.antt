@@ -1,7 +1,7 @@
 -- Suffixes of integers, and the parts of regular expressions.
-use Rattle.std.proofs.Common.{◌≡◌, ℕ, zero, suc, ◌+◌, ◌-◌, ◌^◌, ◌<◌, ◌≤◌, Bool, true, false, cond, ◌&&◌, ◌||◌, eqb, leb, ◌⊎◌, List, [], ◌∷◌, ◌++◌, length, get_or, take, drop, Some, None, Ok, Err, codes, IsAscii, Option, sym, refl, ap, ◌∙◌, subst, inl, inr, ⊎_elim, add-one, arith, length_append, length-drop, take-append-drop, drop_cons, eq_eqb, ne_eqb, eqb-true, le_leb, leb_true}
+use Rattle.std.proofs.Common.{◌≡◌, ℕ, zero, suc, ◌+◌, ◌-◌, ◌^◌, ◌<◌, ◌≤◌, Bool, true, false, cond, ◌&&◌, ◌||◌, eqb, leb, ◌⊎◌, List, [], ◌∷◌, ◌++◌, length, get_or, take, drop, Some, None, Ok, Err, codes, IsAscii, Option, sym, refl, ap, ◌∙◌, subst, inl, inr, ⊎_elim, add-one, arith, length-append, length-drop, take-append-drop, drop-cons, eq-eqb, ne_eqb, eqb-true, le-leb, leb-true}
 use lib.Seq.{drop-append_seam}
-use borrow.Author.Tests.{eqb_false}
+use borrow.Author.Tests.{eqb-false}
 use Rattle.std.specs.Option.{option_map}
 use Rattle.std.specs.Char.{len_utf8}
 use Rattle.std.specs.Str.{chars}
@@ -29,7 +29,7 @@ take_front [] r = refl
 take_front (x ∷ h) r = ap (λ l. x ∷ l) (take_front h r)
 
 long : (h : List ℕ) (c : ℕ) → length (h ++ suffix c) ≡ length h + 2
-long h c = length_append h (suffix c)
+long h c = length-append h (suffix c)
 
 ended : (h : List ℕ) (c : ℕ) → ends c (h ++ suffix c) ≡ true
 ended h c =
@@ -37,7 +37,7 @@ ended h c =
     let l = long h c in
     let a : length t - 2 ≡ length h = omega arith in
     let b : length t - 1 ≡ length h + 1 = omega arith in
-    and_from _ _ (le_leb 2 (length t) (omega arith)) (and_from _ _ (eq_eqb _ c (ap (λ n. get_or t n 0) a ∙ (last_two h c).0)) (eq_eqb _ 66 (ap (λ n. get_or t n 0) b ∙ (last_two h c).1)))
+    and_from _ _ (le-leb 2 (length t) (omega arith)) (and_from _ _ (eq-eqb _ c (ap (λ n. get_or t n 0) a ∙ (last_two h c).0)) (eq-eqb _ 66 (ap (λ n. get_or t n 0) b ∙ (last_two h c).1)))
 
 cut : (h : List ℕ) (c : ℕ) → take (length (h ++ suffix c) - 2) (h ++ suffix c) ≡ h
 cut h c = let l = long h c in let a : length (h ++ suffix c) - 2 ≡ length h = omega arith in ap (λ n. take n (h ++ suffix c)) a ∙ take_front h (suffix c)
@@ -69,12 +69,12 @@ rest_two : (t : List ℕ) (c : ℕ) → ends c t ≡ true → t ≡ take (length
 rest_two t c e =
     let p = and_parts (leb 2 (length t)) _ e in
     let q = and_parts (eqb (get_or t (length t - 2) 0) c) (eqb (get_or t (length t - 1) 0) 66) p.1 in
-    let l = leb_true 2 (length t) p.0 in
+    let l = leb-true 2 (length t) p.0 in
     let n = length t - 2 in
     let s : suc n ≡ length t - 1 = omega arith in
     let d : drop n t ≡ suffix c =
-    drop_cons t n 0 (omega arith) ∙ ap (λ x. x ∷ drop (suc n) t) (eqb-true _ c q.0)
-    ∙ ap (λ r. c ∷ r) (drop_cons t (suc n) 0 (omega arith) ∙ ap (λ x. x ∷ drop (suc (suc n)) t) (ap (λ k. get_or t k 0) s ∙ eqb-true _ 66 q.1) ∙ ap (λ r. 66 ∷ r) (drop_all (suc (suc n)) t (omega arith))) in
+    drop-cons t n 0 (omega arith) ∙ ap (λ x. x ∷ drop (suc n) t) (eqb-true _ c q.0)
+    ∙ ap (λ r. c ∷ r) (drop-cons t (suc n) 0 (omega arith) ∙ ap (λ x. x ∷ drop (suc (suc n)) t) (ap (λ k. get_or t k 0) s ∙ eqb-true _ 66 q.1) ∙ ap (λ r. 66 ∷ r) (drop_all (suc (suc n)) t (omega arith))) in
     sym (take-append-drop n t) ∙ ap (λ r. take n t ++ r) d
 
 plain : (t : List ℕ) → ((h : List ℕ) → t ≡ h ++ suffix 75 → ⊥) → ((h : List ℕ) → t ≡ h ++ suffix 77 → ⊥) → (before t ≡ t) × (factor t ≡ 1)

@@ -1,7 +1,7 @@
 -- The place of a bad escape, and the value of a string.
-use Rattle.std.proofs.Common.{◌≡◌, ℕ, zero, suc, ◌+◌, ◌-◌, ◌<◌, ◌≤◌, Bool, true, false, cond, leb, List, [], ◌∷◌, ◌++◌, length, take, drop, Some, None, Ok, Err, IsUtf8, Option, Result, sym, refl, ap, ◌∙◌, subst, arith, length_append, length-drop, length-take, drop-drop, le_leb, leb_true}
+use Rattle.std.proofs.Common.{◌≡◌, ℕ, zero, suc, ◌+◌, ◌-◌, ◌<◌, ◌≤◌, Bool, true, false, cond, leb, List, [], ◌∷◌, ◌++◌, length, take, drop, Some, None, Ok, Err, IsUtf8, Option, Result, sym, refl, ap, ◌∙◌, subst, arith, length-append, length-drop, length-take, drop-drop, le-leb, leb-true}
 use lib.Utf8.{encode}
-use borrow.Author.Tests.{lt_leb}
+use borrow.Author.Tests.{lt-leb}
 use Rattle.std.proofs.lemmas.Bool.{and_parts}
 use Rattle.std.specs.Char.{len_utf8}
 use Rattle.std.proofs.lemmas.Str.{length-encode, len_utf8_bounds}
@@ -24,7 +24,7 @@ escape_here s q at t rest c h u e =
     let w = len_utf8_bounds c in
     let l = length-drop at t in
     let m = length-drop (at + 1) t in
-    let x = lt_leb (length (drop at t)) 1 (omega (arith, f.1)) in
+    let x = lt-leb (length (drop at t)) 1 (omega (arith, f.1)) in
     let n : length t - length (drop at t) ≡ at = omega arith in
     let d : drop 1 (drop at t) ≡ drop (at + 1) t = drop-drop 1 at t in (
       sym (ap (λ b. cond b (BadToken s) (InvalidEscape (place_in s (q + (length t - length (drop at t))) (q + (length t - length (drop at t)) + 1 + char_bytes (drop 1 (drop at t)))))) x
@@ -38,7 +38,7 @@ pub escape_lone : (s : Span) (q at : ℕ) (t : List ℕ) → length (drop (at + 
 escape_lone s q at t e =
     let l = length-drop at t in
     let m = length-drop (at + 1) t in
-    let x = le_leb (length (drop at t)) 1 (omega arith) in
+    let x = le-leb (length (drop at t)) 1 (omega arith) in
     sym (ap (λ b. cond b (BadToken s) (InvalidEscape (place_in s (q + (length t - length (drop at t))) (q + (length t - length (drop at t)) + 1 + char_bytes (drop 1 (drop at t)))))) x)
 
 -- ---- a string with a backslash
@@ -61,10 +61,10 @@ pub inner_bound : (t : List ℕ) (q : ℕ) (i : List ℕ) → Some (q, i) ≡ in
 inner_bound t q i e = go (opens_three t) (closes_three t) (quoted t) refl refl e
   where
     three : closes_three t ≡ true → 6 ≤ length t
-    three h = leb_true 6 (length t) (and_parts (leb 6 (length t)) _ h).0
+    three h = leb-true 6 (length t) (and_parts (leb 6 (length t)) _ h).0
 
     two : quoted t ≡ true → 2 ≤ length t
-    two h = leb_true 2 (length t) (and_parts (leb 2 (length t)) _ h).0
+    two h = leb-true 2 (length t) (and_parts (leb 2 (length t)) _ h).0
 
     no : {P : Type 0} → ◌≡◌ {A = Option (ℕ × List ℕ)} (Some (q, i)) None → P
     no f = absurd (let z : ◌≡◌ {A = ℕ} 0 1 = cc in omega arith)

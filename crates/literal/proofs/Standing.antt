@@ -1,7 +1,7 @@
 -- The reading of a text is what the language of escapes says, and nothing else is.
-use Rattle.std.proofs.Common.{◌≡◌, ℕ, zero, suc, ◌+◌, ◌-◌, ◌*◌, ◌<◌, ◌≤◌, Bool, true, false, cond, eqb, List, [], ◌∷◌, ◌++◌, length, get_or, drop, Some, None, Ok, Err, Option, Result, sym, refl, ap, ◌∙◌, subst, ⊎_elim, append_assoc, append_nil, arith, length_append, length-drop, eqb-true, MatchOption}
+use Rattle.std.proofs.Common.{◌≡◌, ℕ, zero, suc, ◌+◌, ◌-◌, ◌*◌, ◌<◌, ◌≤◌, Bool, true, false, cond, eqb, List, [], ◌∷◌, ◌++◌, length, get_or, drop, Some, None, Ok, Err, Option, Result, sym, refl, ap, ◌∙◌, subst, ⊎_elim, append_assoc, append-nil, arith, length-append, length-drop, eqb-true, MatchOption}
 use lib.Seq.{drop-append_seam}
-use borrow.Author.Tests.{eqb_false}
+use borrow.Author.Tests.{eqb-false}
 use Rattle.std.proofs.lemmas.Bool.{cases_Bool}
 use Rattle.std.specs.Option.{option_map}
 use Rattle.literal.specs.Escapes.{simple, hex_of, hex_pair, escape, first, Stands, nothing, plain, letter, hex, BadEscape, Reading, put, reading_from, reading, Means, Readings}
@@ -123,7 +123,7 @@ by_length zero t h = absurd (omega arith)
 by_length (suc n) [] h = nothing
 by_length (suc n) (b ∷ bs) h = ⊎_elim
     (λ x. subst (λ k. Means (k ∷ bs) (reading (k ∷ bs))) (sym (eqb-true b 92 x)) (means_escape bs (λ t l. by_length n t (omega arith))))
-    (λ x. means_plain b bs (eqb_false b 92 x) (by_length n bs (omega arith))) (cases_Bool (eqb b 92))
+    (λ x. means_plain b bs (eqb-false b 92 x) (by_length n bs (omega arith))) (cases_Bool (eqb b 92))
 
 pub means : (t : List ℕ) → Means t (reading t)
 means t = by_length (suc (length t)) t (omega arith)
@@ -133,8 +133,8 @@ unfolding reading_from
 once t r m = go r.bytes r.stop m
   where
     go : (ds : List ℕ) (o : Option (List ℕ)) → MatchOption o (Stands t ds) (λ rest. (front : List ℕ) × (t ≡ front ++ rest) × Stands front ds × BadEscape rest) → record { bytes = ds; stop = o } ≡ reading t
-    go ds None k = sym (ap reading (sym (append_nil t)) ∙ complete k [] ∙ ap (λ l. record { bytes = l; stop = None }) (append_nil ds))
-    go ds (Some rest) k = sym (ap reading k.1 ∙ complete k.2 rest ∙ ap (after ds) (bad_read rest k.3) ∙ ap (λ l. record { bytes = l; stop = Some rest }) (append_nil ds))
+    go ds None k = sym (ap reading (sym (append-nil t)) ∙ complete k [] ∙ ap (λ l. record { bytes = l; stop = None }) (append-nil ds))
+    go ds (Some rest) k = sym (ap reading k.1 ∙ complete k.2 rest ∙ ap (after ds) (bad_read rest k.3) ∙ ap (λ l. record { bytes = l; stop = Some rest }) (append-nil ds))
 
 pub readings : Readings
 readings = record { means = means; once = once }
@@ -147,7 +147,7 @@ At t at rest = (rest ≡ drop at t) × (at < length t) × (get_or t at 0 ≡ 92)
 bad_behind : (front rest : List ℕ) → BadEscape rest → At (front ++ rest) (length front) rest
 bad_behind front rest b =
     let e = b.0.1 in
-    (sym (drop-append_seam front rest), omega (arith, length_append front rest, ap length e), slice_index_or_append_at front rest ∙ ap (λ l. get_or l 0 0) e)
+    (sym (drop-append_seam front rest), omega (arith, length-append front rest, ap length e), slice_index_or_append_at front rest ∙ ap (λ l. get_or l 0 0) e)
   where
     slice_index_or_append_at : (front rest : List ℕ) → get_or (front ++ rest) (length front) 0 ≡ get_or rest 0 0
     slice_index_or_append_at [] rest = refl
@@ -157,7 +157,7 @@ stop_at : (t rest : List ℕ) → (reading t).stop ≡ Some rest → At t (lengt
 stop_at t rest e =
     let ds = (reading t).bytes in
     let m = subst (λ o. MatchOption o (Stands t ds) (λ rest. (front : List ℕ) × (t ≡ front ++ rest) × Stands front ds × BadEscape rest)) e (means t) in
-    let n : length m.0 ≡ length t - length rest = omega (arith, ap length m.1, length_append m.0 rest) in
+    let n : length m.0 ≡ length t - length rest = omega (arith, ap length m.1, length-append m.0 rest) in
     subst (λ k. At t k rest) n (subst (λ l. At l (length m.0) rest) (sym m.1) (bad_behind m.0 rest m.3))
 
 -- what an unescaper's error says

@@ -1,7 +1,7 @@
 -- Reading digits one by one gives the number that they write.
-use Rattle.std.proofs.Common.{◌≡◌, ℕ, zero, suc, ◌+◌, ◌-◌, ◌*◌, ◌^◌, ◌<◌, ◌≤◌, Bool, true, false, cond, ◌&&◌, ◌||◌, eqb, ltb, leb, List, [], ◌∷◌, length, get_or, drop, Some, None, Option, sym, refl, ap, ◌∙◌, subst, inl, inr, ⊎_elim, mul_assoc, mul_comm, add-mul, mul-le-mul_left, pow-suc, zero-mul, mul-one, add-one, arith, drop_cons, ltb-false, ltb-true, le_ltb, lt_ltb, eq_eqb, ne_eqb, le_leb}
+use Rattle.std.proofs.Common.{◌≡◌, ℕ, zero, suc, ◌+◌, ◌-◌, ◌*◌, ◌^◌, ◌<◌, ◌≤◌, Bool, true, false, cond, ◌&&◌, ◌||◌, eqb, ltb, leb, List, [], ◌∷◌, length, get_or, drop, Some, None, Option, sym, refl, ap, ◌∙◌, subst, inl, inr, ⊎_elim, mul_assoc, mul_comm, add-mul, mul-le-mul_left, pow-suc, zero-mul, mul-one, add-one, arith, drop-cons, ltb-false, ltb-true, le-ltb, lt-ltb, eq-eqb, ne_eqb, le-leb}
 use native.Mathlib.Nat.{pow-zero, one-le-pow}
-use borrow.Author.Tests.{lt_leb}
+use borrow.Author.Tests.{lt-leb}
 use Rattle.std.specs.Char.{digit_value}
 use Rattle.std.proofs.lemmas.List.{drop_all}
 use Rattle.std.proofs.lemmas.Bool.{cases_Bool}
@@ -12,10 +12,10 @@ use Rattle.literal.specs.Numerals.{pushed, next}
 
 -- one byte more of a text
 pub without_turn : (text : List ℕ) (i : ℕ) → i < length text → without (drop i text) ≡ cond (eqb (get_or text i 0) 95) (without (drop (i + 1) text)) (get_or text i 0 ∷ without (drop (i + 1) text))
-without_turn text i h = ap without (drop_cons text i 0 h) ∙ ap (λ j. cond (eqb (get_or text i 0) 95) (without (drop j text)) (get_or text i 0 ∷ without (drop j text))) (sym (add-one i))
+without_turn text i h = ap without (drop-cons text i 0 h) ∙ ap (λ j. cond (eqb (get_or text i 0) 95) (without (drop j text)) (get_or text i 0 ∷ without (drop j text))) (sym (add-one i))
 
 pub without_skip : (text : List ℕ) (i : ℕ) → i < length text → get_or text i 0 ≡ 95 → without (drop i text) ≡ without (drop (i + 1) text)
-without_skip text i h e = let x = eq_eqb (get_or text i 0) 95 e in without_turn text i h ∙ rw x
+without_skip text i h e = let x = eq-eqb (get_or text i 0) 95 e in without_turn text i h ∙ rw x
 
 pub without_keep : (text : List ℕ) (i : ℕ) → i < length text → (get_or text i 0 ≡ 95 → ⊥) → without (drop i text) ≡ get_or text i 0 ∷ without (drop (i + 1) text)
 without_keep text i h e = let x = ne_eqb (get_or text i 0) 95 e in without_turn text i h ∙ rw x
@@ -52,13 +52,13 @@ grown n k h = subst (λ x. x ≤ n * k) (mul-one n) (mul-le-mul_left n h)
 
 pub some_more : (some : Bool) (k : ℕ) → (some || ltb 0 (suc k)) ≡ true
 some_more true k = refl
-some_more false k = lt_ltb 0 (suc k) (omega arith)
+some_more false k = lt-ltb 0 (suc k) (omega arith)
 
 fits : (n : ℕ) → n < 2 ^ 64 → up_to (2 ^ 64 - 1) (Some n) ≡ Some n
-fits n h = let e = le_leb n (2 ^ 64 - 1) (omega arith) in rw e
+fits n h = let e = le-leb n (2 ^ 64 - 1) (omega arith) in rw e
 
 over : (x : Bool) (n : ℕ) → 2 ^ 64 ≤ n → up_to (2 ^ 64 - 1) (cond x (Some n) None) ≡ None
-over true n h = let e = lt_leb n (2 ^ 64 - 1) (omega arith) in rw e
+over true n h = let e = lt-leb n (2 ^ 64 - 1) (omega arith) in rw e
 over false n h = refl
 
 ended : (base : ℕ) (some : Bool) (n : ℕ) → n < 2 ^ 64 → reading base some n [] ≡ total base some n []
@@ -76,14 +76,14 @@ more base d ds z rec some n h = ⊎_elim digit other (cases_Bool (ltb (digit_val
 
     small : ltb (digit_value d) base ≡ true → n * base + digit_value d < 2 ^ 64 → reading base some n (d ∷ ds) ≡ total base some n (d ∷ ds)
     small t l =
-        let x = lt_ltb (n * base + digit_value d) (2 ^ 64) l in
+        let x = lt-ltb (n * base + digit_value d) (2 ^ 64) l in
         let y = some_more some (length ds) in
         let e = place_pow n base (digit_value d) (length ds) (number_of base ds) in
         rw (t, x, y) (rec true (n * base + digit_value d) l ∙ ap (λ m. up_to (2 ^ 64 - 1) (cond (are_digits base ds && true) (Some m) None)) e)
 
     large : ltb (digit_value d) base ≡ true → 2 ^ 64 ≤ n * base + digit_value d → reading base some n (d ∷ ds) ≡ total base some n (d ∷ ds)
     large t l =
-        let x = le_ltb (n * base + digit_value d) (2 ^ 64) l in
+        let x = le-ltb (n * base + digit_value d) (2 ^ 64) l in
         let e = place_pow n base (digit_value d) (length ds) (number_of base ds) in
         let g = grown (n * base + digit_value d) (base ^ length ds) (one-le-pow (length ds) base z) in
         let o = over (are_digits base ds && (some || ltb 0 (suc (length ds)))) (n * base ^ suc (length ds) + (digit_value d * base ^ length ds + number_of base ds)) (omega arith) in

@@ -1,7 +1,7 @@
 -- The rows of the table are the encodings of Unicode's characters, and the front that `valid_prefix` measures is the longest.
-use Rattle.std.proofs.Common.{◌≡◌, ℕ, zero, suc, ◌+◌, ◌-◌, ◌*◌, ◌/◌, ◌<◌, ◌≤◌, Bool, true, false, cond, ◌&&◌, ltb, leb, ◌⊎◌, List, [], ◌∷◌, ◌++◌, length, take, drop, IsUtf8, sym, refl, ap, ◌∙◌, subst, inl, inr, ⊎_elim, append_assoc, append_nil, arith, length_append, le_ltb, lt_ltb, le_leb, leb_true}
+use Rattle.std.proofs.Common.{◌≡◌, ℕ, zero, suc, ◌+◌, ◌-◌, ◌*◌, ◌/◌, ◌<◌, ◌≤◌, Bool, true, false, cond, ◌&&◌, ltb, leb, ◌⊎◌, List, [], ◌∷◌, ◌++◌, length, take, drop, IsUtf8, sym, refl, ap, ◌∙◌, subst, inl, inr, ⊎_elim, append_assoc, append-nil, arith, length-append, le-ltb, lt-ltb, le-leb, leb-true}
 use lib.Utf8.{scalar, scalars, encode, encodes, next, low_scalar, scalar_cases}
-use borrow.Author.Tests.{lt_leb}
+use borrow.Author.Tests.{lt-leb}
 use Rattle.std.proofs.lemmas.Str.{IsUtf8-append, IsUtf8-encode, IsUtf8-nil}
 use Rattle.std.proofs.lemmas.Bool.{and_parts, and_from, cases_lt, cases_Bool, and_left, and_right}
 use Rattle.literal.specs.Utf8.{Range, forms, OneOf, Follows, Characters, none, more, begins, bytes_by, char_bytes, valid_from, valid_prefix, Longest}
@@ -9,11 +9,11 @@ use Rattle.literal.specs.Utf8.{Range, forms, OneOf, Follows, Characters, none, m
 -- ---- a row's bytes encode a character
 
 high : (c : ℕ) → 57344 ≤ c → c < 1114112 → scalar c ≡ true
-high c l u = let x = le_ltb c 55296 (omega arith) in let y = le_leb 57344 c l in let z = lt_ltb c 1114112 u in rw (x, y, z)
+high c l u = let x = le-ltb c 55296 (omega arith) in let y = le-leb 57344 c l in let z = lt-ltb c 1114112 u in rw (x, y, z)
 
 one : (a : ℕ) → a ≤ 127 → IsUtf8 (a ∷ [])
 unfolding encode
-one a h = let e : encode a ≡ a ∷ [] = (let x = lt_ltb a 128 (omega arith) in rw x) in subst IsUtf8 e (IsUtf8-encode a (low_scalar a (omega arith)))
+one a h = let e : encode a ≡ a ∷ [] = (let x = lt-ltb a 128 (omega arith) in rw x) in subst IsUtf8 e (IsUtf8-encode a (low_scalar a (omega arith)))
 
 abbrev Tail : ℕ → Type 0
 Tail b = (128 ≤ b) × (b ≤ 191)
@@ -22,8 +22,8 @@ two : (a b : ℕ) → 194 ≤ a → a ≤ 223 → Tail b → IsUtf8 (a ∷ b ∷
 unfolding encode
 two a b l h t =
     let c = (a - 192) * 64 + (b - 128) in
-    let x = le_ltb c 128 (omega arith) in
-    let y = lt_ltb c 2048 (omega arith) in
+    let x = le-ltb c 128 (omega arith) in
+    let y = lt-ltb c 2048 (omega arith) in
     let p : 192 + c / 64 ≡ a = omega arith in
     let q : next c ≡ b = omega arith in
     let e : encode c ≡ a ∷ b ∷ [] = rw (x, y) (cc) in
@@ -34,9 +34,9 @@ unfolding encode
 three a b d l h t u lo hi =
     let c = (a - 224) * 4096 + (b - 128) * 64 + (d - 128) in
     let least : 2048 ≤ c = ⊎_elim (λ (k : a < 225). let m = lo (omega arith) in omega arith) (λ (k : 225 ≤ a). omega arith) (cases_lt a 225) in
-    let x = le_ltb c 128 (omega arith) in
-    let y = le_ltb c 2048 least in
-    let z = lt_ltb c 65536 (omega arith) in
+    let x = le-ltb c 128 (omega arith) in
+    let y = le-ltb c 2048 least in
+    let z = lt-ltb c 65536 (omega arith) in
     let p : 224 + c / 4096 ≡ a = omega arith in
     let q : next (c / 64) ≡ b = omega arith in
     let r : next c ≡ d = omega arith in
@@ -52,9 +52,9 @@ four a b d f l h t u v lo hi =
     let c = (a - 240) * 262144 + (b - 128) * 4096 + (d - 128) * 64 + (f - 128) in
     let least : 65536 ≤ c = ⊎_elim (λ (k : a < 241). let m = lo (omega arith) in omega arith) (λ (k : 241 ≤ a). omega arith) (cases_lt a 241) in
     let most : c < 1114112 = ⊎_elim (λ (k : a < 244). omega arith) (λ (k : 244 ≤ a). let m = hi (omega arith) in omega arith) (cases_lt a 244) in
-    let x = le_ltb c 128 (omega arith) in
-    let y = le_ltb c 2048 (omega arith) in
-    let z = le_ltb c 65536 least in
+    let x = le-ltb c 128 (omega arith) in
+    let y = le-ltb c 2048 (omega arith) in
+    let z = le-ltb c 65536 least in
     let p : 240 + c / 262144 ≡ a = omega arith in
     let q : next (c / 4096) ≡ b = omega arith in
     let g : c / 64 ≡ (a - 240) * 4096 + (b - 128) * 64 + (d - 128) = omega arith in
@@ -110,13 +110,13 @@ unfolding encode
 encode_shaped c s = ⊎_elim less128 (λ (l : 128 ≤ c). ⊎_elim (less2048 l) (λ (l : 2048 ≤ c). ⊎_elim (less65536 l) more65536 (cases_lt c 65536)) (cases_lt c 2048)) (cases_lt c 128)
   where
     less128 : c < 128 → Shaped (encode c)
-    less128 h = let x = lt_ltb c 128 h in rw x (_, inl refl, (omega arith, omega arith, tt))
+    less128 h = let x = lt-ltb c 128 h in rw x (_, inl refl, (omega arith, omega arith, tt))
 
     less2048 : 128 ≤ c → c < 2048 → Shaped (encode c)
-    less2048 l h = let x = le_ltb c 128 l in let y = lt_ltb c 2048 h in rw (x, y) (_, inr (inl refl), (omega arith, omega arith, (omega arith, omega arith, tt)))
+    less2048 l h = let x = le-ltb c 128 l in let y = lt-ltb c 2048 h in rw (x, y) (_, inr (inl refl), (omega arith, omega arith, (omega arith, omega arith, tt)))
 
     of3 : 2048 ≤ c → c < 65536 → {form : List Range} → OneOf form forms → Follows form ((224 + c / 4096) ∷ next (c / 64) ∷ next c ∷ []) → Shaped (encode c)
-    of3 l h o f = let x = le_ltb c 128 (omega arith) in let y = le_ltb c 2048 l in let z = lt_ltb c 65536 h in rw (x, y, z) (_, o, f)
+    of3 l h o f = let x = le-ltb c 128 (omega arith) in let y = le-ltb c 2048 l in let z = lt-ltb c 65536 h in rw (x, y, z) (_, o, f)
 
     less65536 : 2048 ≤ c → c < 65536 → Shaped (encode c)
     less65536 l h =
@@ -126,7 +126,7 @@ encode_shaped c s = ⊎_elim less128 (λ (l : 128 ≤ c). ⊎_elim (less2048 l) 
         (λ (q : (57344 ≤ c) × (c < 1114112)). of3 l h (inr (inr (inr (inr (inr (inl refl)))))) (omega arith, omega arith, (omega arith, omega arith, (omega arith, omega arith, tt)))) (scalar_cases c s)) (cases_lt c 53248)) (cases_lt c 4096)
 
     of4 : 65536 ≤ c → {form : List Range} → OneOf form forms → Follows form ((240 + c / 262144) ∷ next (c / 4096) ∷ next (c / 64) ∷ next c ∷ []) → Shaped (encode c)
-    of4 l o f = let x = le_ltb c 128 (omega arith) in let y = le_ltb c 2048 (omega arith) in let z = le_ltb c 65536 l in rw (x, y, z) (_, o, f)
+    of4 l o f = let x = le-ltb c 128 (omega arith) in let y = le-ltb c 2048 (omega arith) in let z = le-ltb c 65536 l in rw (x, y, z) (_, o, f)
 
     below : c < 1114112
     below = ⊎_elim (λ (u : c < 55296). omega arith) (λ (q : (57344 ≤ c) × (c < 1114112)). q.1) (scalar_cases c s)

@@ -1,5 +1,5 @@
 -- What is written of the trees that a link leads to.
-use Rattle.std.proofs.Common.{◌≡◌, ℕ, zero, suc, ◌+◌, ◌-◌, ◌<◌, ◌≤◌, Bool, true, false, cond, ◌&&◌, leb, List, ◌++◌, Some, None, Option, sym, refl, ap, ◌∙◌, arith, le_leb, leb_true}
+use Rattle.std.proofs.Common.{◌≡◌, ℕ, zero, suc, ◌+◌, ◌-◌, ◌<◌, ◌≤◌, Bool, true, false, cond, ◌&&◌, leb, List, ◌++◌, Some, None, Option, sym, refl, ap, ◌∙◌, arith, le-leb, leb-true}
 use Rattle.kinds.specs.At.{at}
 use Rattle.outline.specs.declared.print.View.{View}
 use Rattle.tree.specs.declared.slot.Slot.{Slot}
@@ -17,10 +17,10 @@ inside low top n = leb low n && leb (suc n) top
 inside_true : (low top n : ℕ) → inside low top n ≡ true → (low ≤ n) × (n < top)
 inside_true low top n e =
     let p = both (leb low n) (leb (suc n) top) e in
-    (leb_true low n p.0, leb_true (suc n) top p.1)
+    (leb-true low n p.0, leb-true (suc n) top p.1)
 
 inside_from : (low top n : ℕ) → low ≤ n → n < top → inside low top n ≡ true
-inside_from low top n h k = ap (λ q. q && leb (suc n) top) (le_leb low n h) ∙ le_leb (suc n) top k
+inside_from low top n h k = ap (λ q. q && leb (suc n) top) (le-leb low n h) ∙ le-leb (suc n) top k
 
 inside_false : (low top n : ℕ) → ((low ≤ n) → (n < top) → ⊥) → inside low top n ≡ false
 inside_false low top n h = go (inside low top n) refl

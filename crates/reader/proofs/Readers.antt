@@ -1,6 +1,6 @@
 -- What the steps of a reader do.
 use Rattle.std.proofs.Common.{◌≡◌, ℕ, ◌+◌, ◌<◌, ◌≤◌, Bool, true, false, cond, List, [], ◌∷◌, ◌++◌, length, get_or, take, drop, sym, refl, ap, ◌∙◌, subst}
-use Rattle.std.proofs.lemmas.List.{append_nil}
+use Rattle.std.proofs.lemmas.List.{append-nil}
 use Rattle.syntax.specs.declared.event.Event.{Event}
 use Rattle.syntax.specs.declared.event.Event.TheVariants.{Error}
 use Rattle.syntax.specs.declared.span.Span.{Span}

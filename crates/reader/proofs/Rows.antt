@@ -1,7 +1,7 @@
 -- What the grammar sees of a row.
 use Rattle.std.proofs.Common.{◌≡◌, ℕ, zero, suc, ◌+◌, ◌<◌, ◌≤◌, List, [], ◌∷◌, ◌++◌, length, get_or, take, drop, sym, refl, ap, ◌∙◌, subst, add-one, arith, take-suc}
 use lib.Seq.{split_at}
-use Rattle.std.proofs.lemmas.List.{append_nil, append_assoc, drop_more, drop_all, take_all}
+use Rattle.std.proofs.lemmas.List.{append-nil, append_assoc, drop_more, drop_all, take_all}
 use Rattle.syntax.specs.declared.event.Event.{Event}
 use Rattle.syntax.specs.declared.event.Event.TheVariants.{Error, Begin, End, Token}
 use Rattle.syntax.specs.declared.span.Span.{Span}
@@ -56,7 +56,7 @@ module _ (row : List Event) (i : ℕ) (d : Event) (h : i < length row) where
   pub skip_past : (m : ℕ) (s : Span) → get_or row i d ≡ Error m s → visible (take (i + 1) row) ≡ visible (take i row)
   skip_past m s e =
       ap visible taken ∙ visible-++ (take i row) (get_or row i d ∷ []) ∙ ap (λ x. visible (take i row) ++ visible (x ∷ [])) e
-      ∙ append_nil (visible (take i row))
+      ∙ append-nil (visible (take i row))
 
   -- any other is seen
   pub seen_rest : Seen (get_or row i d) → visible (drop i row) ≡ get_or row i d ∷ visible (drop (i + 1) row)

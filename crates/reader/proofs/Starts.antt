@@ -1,5 +1,5 @@
 -- What the words of a symbol begin with.
-use Rattle.std.proofs.Common.{◌≡◌, ℕ, Bool, true, false, cond, not, T, eqb, ◌⊎◌, List, [], ◌∷◌, ◌++◌, sym, refl, ap, ◌∙◌, subst, inl, inr, arith, T_not, eq_eqb}
+use Rattle.std.proofs.Common.{◌≡◌, ℕ, Bool, true, false, cond, not, T, eqb, ◌⊎◌, List, [], ◌∷◌, ◌++◌, sym, refl, ap, ◌∙◌, subst, inl, inr, arith, T_not, eq-eqb}
 use Rattle.kinds.specs.Kinds.{number_of, same}
 use Rattle.kinds.specs.declared.kind.SyntaxKind.{SyntaxKind}
 use Rattle.syntax.specs.declared.event.Event.{Event}
@@ -26,7 +26,7 @@ differ (mark.Token a) (mark.End b) = true
 differ (mark.Token a) (mark.Token b) = not (same a b)
 
 unequal : {a b : SyntaxKind} → T (not (same a b)) → a ≡ b → ⊥
-unequal {a} {b} d e = T_not _ d (subst T (sym (eq_eqb (number_of a) (number_of b) (ap (λ t. number_of t) e))) tt)
+unequal {a} {b} d e = T_not _ d (subst T (sym (eq-eqb (number_of a) (number_of b) (ap (λ t. number_of t) e))) tt)
 
 pub apart : (m n : Mark) (s r : Span) → T (differ m n) → event m s ≡ event n r → ⊥
 apart (mark.Begin a) (mark.Begin b) s r d e = let k : a ≡ b = cc in unequal d k

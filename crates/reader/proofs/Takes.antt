@@ -1,7 +1,7 @@
 -- Single events that are taken or refused.
 use Rattle.std.proofs.Common.{◌≡◌, ℕ, ◌+◌, Bool, true, false, cond, not, ◌||◌, List, [], ◌∷◌, ◌++◌, length, take, drop, IsErrAnd, Some, None, Ok, Err, Result, sym, refl, ap, ◌∙◌, subst, arith}
 use borrow.Author.Tests.{both_ways}
-use Rattle.std.proofs.lemmas.List.{append_nil, append_assoc}
+use Rattle.std.proofs.lemmas.List.{append-nil, append_assoc}
 use Rattle.kinds.specs.Kinds.{same}
 use Rattle.kinds.specs.declared.kind.SyntaxKind.{SyntaxKind}
 use Rattle.kinds.specs.declared.kind.SyntaxKind.TheVariants.{TERM, MINUS, IDENT, PATTERN_IDENT, PATTERN_COUNT, PATTERN_OFFSET, PATTERN_LENGTH, INTEGER_LIT, FLOAT_LIT, STRING_LIT, REGEXP}
@@ -52,7 +52,7 @@ pub refused_next : {A : Type 0} (f : Sym A) (r : Refusal) (p p₁ : Reader) (v :
 refused_next f r p p₁ v same stops e s b =
     record {
       place = (state_of p).past;
-      fail = record { before = []; others = v; split = ap (λ x. x.rest) (sym same) ∙ e; behind = sym (append_nil (state_of p).past); viable = s; clear = tt; blame = subst (λ (x : Conf). Blame f [] x.state v r) same b };
+      fail = record { before = []; others = v; split = ap (λ x. x.rest) (sym same) ∙ e; behind = sym (append-nil (state_of p).past); viable = s; clear = tt; blame = subst (λ (x : Conf). Blame f [] x.state v r) same b };
       stops = subst (λ (x : Conf). Stops p₁ x.state.past) same stops;
     }
 
@@ -179,7 +179,7 @@ token_refused k s r p p' e t =
             before = [];
             others = Token k s ∷ (conf p').rest;
             split = t.split;
-            behind = sym (append_nil (state_of p).past);
+            behind = sym (append-nil (state_of p).past);
             viable = sample (mark.Token k);
             clear = tt;
             blame = Blame.token t.passes (viable_one (mark.Token k) (Token k s) (s, refl)) e;

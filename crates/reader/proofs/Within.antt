@@ -1,6 +1,6 @@
 -- Reading and failing, for any symbols: sequences, choices, and what is left to read.
-use Rattle.std.proofs.Common.{◌≡◌, ℕ, ◌+◌, ◌≤◌, Bool, true, false, cond, ltb, ◌⊎◌, List, [], ◌∷◌, ◌++◌, length, sym, refl, ap, ◌∙◌, subst, inl, inr, arith, length_append, ltb-false}
-use Rattle.std.proofs.lemmas.List.{append_assoc, append_nil}
+use Rattle.std.proofs.Common.{◌≡◌, ℕ, ◌+◌, ◌≤◌, Bool, true, false, cond, ltb, ◌⊎◌, List, [], ◌∷◌, ◌++◌, length, sym, refl, ap, ◌∙◌, subst, inl, inr, arith, length-append, ltb-false}
+use Rattle.std.proofs.lemmas.List.{append_assoc, append-nil}
 use Rattle.syntax.specs.declared.event.Event.{Event}
 use Rattle.syntax.specs.declared.event.Event.TheVariants.{Error, Begin, End, Token}
 use Rattle.refusal.specs.declared.refusal.Refusal.{Refusal}
@@ -16,7 +16,7 @@ after-++ st [] w = refl
 after-++ st (e ∷ u) w = after-++ (step st e) u w
 
 pub past_after : (st : State) (w : Word) → (after st w).past ≡ st.past ++ w
-past_after st [] = sym (append_nil st.past)
+past_after st [] = sym (append-nil st.past)
 past_after st (e ∷ w) = past_after (step st e) w ∙ append_assoc st.past (e ∷ []) w
 
 settled : (st : State) (e : Event) (u : Word) → Judged true st e u → NoMinus st e
@@ -266,7 +266,7 @@ module _ {A : Type 0} {N : Sym A} where
       }
 
 pub read_le : {A : Type 0} {f : Sym A} {d : Bool} {a : A} {c c₁ : Conf} → Read d f a c c₁ → length c₁.rest ≤ length c.rest
-read_le {c₁ = c₁} r = omega (arith, ap length r.split, length_append r.word c₁.rest)
+read_le {c₁ = c₁} r = omega (arith, ap length r.split, length-append r.word c₁.rest)
 
 -- a word of a symbol is not empty where none is a front of nothing
 pub read_less : {A : Type 0} {f : Sym A} {d : Bool} {a : A} {c c₁ : Conf} → Short f [] → Read d f a c c₁ → length c₁.rest + 1 ≤ length c.rest
@@ -274,7 +274,7 @@ read_less {f = f} {a = a} {c = c} {c₁ = c₁} s r = by_word r.word r.split r.w
   where
     by_word : (w : Word) → c.rest ≡ w ++ c₁.rest → ((k : Word) → spell f a k ≡ w ++ k) → length c₁.rest + 1 ≤ length c.rest
     by_word [] p q = absurd (s a [] (q []))
-    by_word (e ∷ w) p q = omega (arith, ap length p, length_append w c₁.rest)
+    by_word (e ∷ w) p q = omega (arith, ap length p, length-append w c₁.rest)
 
 -- a source's places only grow
 pub last_grows : (d : Bool) (st : State) (w : Word) → Clear d st w → st.last ≤ (after st w).last

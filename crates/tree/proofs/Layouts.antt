@@ -1,6 +1,6 @@
 -- What one more child does to a layout.
-use Rattle.std.proofs.Common.{◌≡◌, ℕ, ◌+◌, ◌-◌, ◌<◌, List, [], ◌∷◌, ◌++◌, length, set, sym, refl, ap, ◌∙◌, arith, length_append}
-use Rattle.std.proofs.lemmas.List.{append_nil, append_assoc}
+use Rattle.std.proofs.Common.{◌≡◌, ℕ, ◌+◌, ◌-◌, ◌<◌, List, [], ◌∷◌, ◌++◌, length, set, sym, refl, ap, ◌∙◌, arith, length-append}
+use Rattle.std.proofs.lemmas.List.{append-nil, append_assoc}
 use Rattle.tree.specs.declared.slot.Slot.{Slot}
 use Rattle.tree.specs.Labels.{Label, own_text, slot_of}
 use Rattle.tree.specs.Trees.{Tree, Trees, behind, size, sizes, text_of, texts_of}
@@ -13,13 +13,13 @@ use Rattle.tree.proofs.Stores.{overlay-++, setNext-last}
 mutual
   pub length_tree : (t : Tree) (b c n : ℕ) → length (lay_tree t b c n) ≡ size t
   length_tree (node l ts) b c n =
-      length_append (lay_trees ts b (c + length (own_text l.name))) (slot_of l c (first_of b ts) n ∷ [])
+      length-append (lay_trees ts b (c + length (own_text l.name))) (slot_of l c (first_of b ts) n ∷ [])
       ∙ omega (arith, length_trees ts b (c + length (own_text l.name)))
 
   pub length_trees : (ts : Trees) (b c : ℕ) → length (lay_trees ts b c) ≡ sizes ts
   length_trees none b c = refl
   length_trees (more t ts) b c =
-      length_append (lay_tree t b c (first_of (b + size t) ts)) (lay_trees ts (b + size t) (c + length (text_of t)))
+      length-append (lay_tree t b c (first_of (b + size t) ts)) (lay_trees ts (b + size t) (c + length (text_of t)))
       ∙ omega (arith, length_tree t b c (first_of (b + size t) ts), length_trees ts (b + size t) (c + length (text_of t)))
 
 pub size_pos : (t : Tree) → 0 < size t
@@ -63,7 +63,7 @@ sizes_behind none u = omega arith
 sizes_behind (more t ts) u = omega (arith, sizes_behind ts u)
 
 pub texts_behind : (ts : Trees) (u : Tree) → texts_of (behind ts u) ≡ texts_of ts ++ text_of u
-texts_behind none u = append_nil (text_of u)
+texts_behind none u = append-nil (text_of u)
 texts_behind (more t ts) u =
     ap (λ x. text_of t ++ x) (texts_behind ts u) ∙ sym (append_assoc (text_of t) (texts_of ts) (text_of u))
 
@@ -78,11 +78,11 @@ lay_behind m b c i k (more t none) u e f h =
     let d : ℕ = c + length (text_of t) in
     let n : ℕ = j + size u in
     let at_i : j ≡ i = omega (arith, e) in
-    let at-k : d ≡ k = omega (arith, f, ap length (append_nil (text_of t))) in
+    let at-k : d ≡ k = omega (arith, f, ap length (append-nil (text_of t))) in
     lay_more m b c t (more u none)
-    ∙ ap (λ xs. overlay (overlay m b (lay_tree t b c n)) j xs) (append_nil (lay_tree u j d 0))
+    ∙ ap (λ xs. overlay (overlay m b (lay_tree t b c n)) j xs) (append-nil (lay_tree u j d 0))
     ∙ ap (λ y. overlay y j (lay_tree u j d 0)) (sym (relink m b c n t))
-    ∙ ap (λ xs. overlay (set_next (overlay m b xs) (j - 1) n) j (lay_tree u j d 0)) (sym (append_nil (lay_tree t b c 0)))
+    ∙ ap (λ xs. overlay (set_next (overlay m b xs) (j - 1) n) j (lay_tree u j d 0)) (sym (append-nil (lay_tree t b c 0)))
     ∙ ap (λ p. overlay (set_next (overlay m b (lay_trees (more t none) b c)) (p - 1) (p + size u)) p (lay_tree u p d 0)) at_i
     ∙ ap (λ q. overlay (set_next (overlay m b (lay_trees (more t none) b c)) (i - 1) (i + size u)) i (lay_tree u i q 0)) at-k
 lay_behind m b c i k (more t (more t₂ ts)) u e f h =
@@ -91,6 +91,6 @@ lay_behind m b c i k (more t (more t₂ ts)) u e f h =
     let m₁ : List Slot = overlay m b (lay_tree t b c (j + size t₂)) in
     lay_more m b c t (more t₂ (behind ts u))
     ∙ lay_behind m₁ j d i k (more t₂ ts) u (omega (arith, e))
-    (omega (arith, f, length_append (text_of t) (texts_of (more t₂ ts))))
+    (omega (arith, f, length-append (text_of t) (texts_of (more t₂ ts))))
     (omega (arith, size_pos t₂))
     ∙ ap (λ y. overlay (set_next y (i - 1) (i + size u)) i (lay_tree u i k 0)) (sym (lay_more m b c t (more t₂ ts)))

@@ -1,6 +1,6 @@
 -- What the placing calls do to a tree that is being placed.
-use Rattle.std.proofs.Common.{◌≡◌, ℕ, ◌+◌, ◌-◌, ◌^◌, ◌<◌, ◌≤◌, false, cond, eqb, List, [], ◌∷◌, ◌++◌, length, set, sym, refl, ap, ◌∙◌, subst, arith, length_append, ne_eqb}
-use Rattle.std.proofs.lemmas.List.{append_nil, append_assoc}
+use Rattle.std.proofs.Common.{◌≡◌, ℕ, ◌+◌, ◌-◌, ◌^◌, ◌<◌, ◌≤◌, false, cond, eqb, List, [], ◌∷◌, ◌++◌, length, set, sym, refl, ap, ◌∙◌, subst, arith, length-append, ne_eqb}
+use Rattle.std.proofs.lemmas.List.{append-nil, append_assoc}
 use Rattle.tree.specs.declared.slot.Slot.{Slot}
 use Rattle.tree.specs.Labels.{Label, own_text, slot_of, blank_slot}
 use Rattle.tree.specs.Trees.{Tree, Trees, behind, size, sizes, text_of, texts_of}
@@ -46,7 +46,7 @@ text_grown l ts u =
 text_behind :
     (l : Label) (ts : Trees) (c : ℕ) →
     c + length (text_of (node l ts)) ≡ (c + length (own_text l.name)) + length (texts_of ts)
-text_behind l ts c = omega (arith, length_append (own_text l.name) (texts_of ts))
+text_behind l ts c = omega (arith, length-append (own_text l.name) (texts_of ts))
 
 -- a parent with a child that was laid out
 abbrev fostered : Slot → ℕ → Memory → Memory
@@ -72,7 +72,7 @@ module _ (l : Label) (u : Tree) (m : Memory) where
       text_behind l none c ∙ omega arith in
       ap (λ i. overlay m.slots i (lay_tree u i (c + length (text_of (node l none))) 0)) at_b
       ∙ ap (λ k. overlay m.slots b (lay_tree u b k 0)) at_c
-      ∙ ap (λ xs. overlay m.slots b xs) (sym (append_nil (lay_tree u b (c + length (own_text l.name)) 0)))
+      ∙ ap (λ xs. overlay m.slots b xs) (sym (append-nil (lay_tree u b (c + length (own_text l.name)) 0)))
   slots_grown (more t ts) last e =
       let b : ℕ = m.used in
       let i : ℕ = b + sizes (more t ts) in
@@ -108,7 +108,7 @@ module _ (l : Label) (u : Tree) (m : Memory) where
       (slots_grown ts last e)
       (omega (arith, sizes_behind ts u))
       (sym (overlay-++ m.text m.written ys (text_of u)) ∙ ap (λ x. overlay m.text m.written x) (text_grown l ts u))
-      (omega (arith, length_append ys (text_of u), ap length (text_grown l ts u)))
+      (omega (arith, length-append ys (text_of u), ap length (text_grown l ts u)))
 
 -- a root is adopted
 pub grows :
@@ -162,7 +162,7 @@ completes m t m₀ u w e =
 pub leaf-pending :
     (l : Label) (m : Memory) → own_text l.name ≡ [] → Pending (node l none) m (slot_of l m.written 0 0) m
 leaf-pending l m e =
-    let no_text : text_of (node l none) ≡ [] = append_nil (own_text l.name) ∙ e in
+    let no_text : text_of (node l none) ≡ [] = append-nil (own_text l.name) ∙ e in
     record {
       root = refl;
       memory =
@@ -180,8 +180,8 @@ text-pending l m =
       root = refl;
       memory =
           same_memory (texted own m) (below_laid (node l none) m) refl (omega arith)
-          (ap (λ x. overlay m.text m.written x) (sym (append_nil own)))
-          (ap (λ x. m.written + length x) (sym (append_nil own)));
+          (ap (λ x. overlay m.text m.written x) (sym (append-nil own)))
+          (ap (λ x. m.written + length x) (sym (append-nil own)));
     }
 
 -- no bytes, and one more byte
@@ -194,7 +194,7 @@ pub texted-more :
 texted-more bytes byte m h =
     same_memory (pushed byte (texted bytes m)) (texted (bytes ++ (byte ∷ [])) m) refl refl
     (sym (overlay-++ m.text m.written bytes (byte ∷ [])))
-    (counts (m.written + length bytes) h ∙ omega (arith, length_append bytes (byte ∷ [])))
+    (counts (m.written + length bytes) h ∙ omega (arith, length-append bytes (byte ∷ [])))
 
 -- a root under another label with as much text: kind, place, value, flags or a name in the source may change
 pub relabelled :

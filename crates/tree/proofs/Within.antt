@@ -1,6 +1,6 @@
 -- A list that stands within another from an index on.
-use Rattle.std.proofs.Common.{◌≡◌, ℕ, ◌+◌, ◌-◌, true, cond, ◌&&◌, leb, List, [], ◌∷◌, ◌++◌, length, take, drop, Some, None, sym, refl, ap, ◌∙◌, arith, length_append, le_leb}
-use Rattle.std.proofs.lemmas.List.{append_nil, append_assoc, take_at, drop_at}
+use Rattle.std.proofs.Common.{◌≡◌, ℕ, ◌+◌, ◌-◌, true, cond, ◌&&◌, leb, List, [], ◌∷◌, ◌++◌, length, take, drop, Some, None, sym, refl, ap, ◌∙◌, arith, length-append, le-leb}
+use Rattle.std.proofs.lemmas.List.{append-nil, append_assoc, take_at, drop_at}
 use Rattle.kinds.specs.At.{at}
 use Rattle.syntax.specs.Spans.{span_of}
 use Rattle.tree.specs.Parts.{cut}
@@ -29,7 +29,7 @@ within_later xs b c ys zs e w =
       after = w.after;
       is =
           w.is ∙ ap (λ l. w.before ++ l) (append_assoc ys zs w.after) ∙ sym (append_assoc w.before ys (zs ++ w.after));
-      far = length_append w.before ys ∙ omega (arith, w.far, e);
+      far = length-append w.before ys ∙ omega (arith, w.far, e);
     }
 
 at_front : {A : Type 0} (ys : List A) (x : A) (zs : List A) → at (ys ++ (x ∷ zs)) (length ys) ≡ Some x
@@ -44,10 +44,10 @@ within_at xs b x ys w =
 -- the bytes at their place
 pub within_cut : (xs : List ℕ) (b : ℕ) (ys : List ℕ) → Within xs b ys → cut xs (span_of b (b + length ys)) ≡ Some ys
 within_cut xs b ys w =
-    let long = ap length w.is ∙ length_append w.before (ys ++ w.after) in
-    let in-front : leb b (b + length ys) ≡ true = le_leb b (b + length ys) (omega arith) in
+    let long = ap length w.is ∙ length-append w.before (ys ++ w.after) in
+    let in-front : leb b (b + length ys) ≡ true = le-leb b (b + length ys) (omega arith) in
     let in-back : leb (b + length ys) (length xs) ≡ true =
-    le_leb (b + length ys) (length xs) (omega (arith, long, length_append ys w.after, w.far)) in
+    le-leb (b + length ys) (length xs) (omega (arith, long, length-append ys w.after, w.far)) in
     let part : take ((b + length ys) - b) (drop b xs) ≡ ys =
     ap (λ l. take ((b + length ys) - b) (drop b l)) w.is
     ∙ ap (λ l. take ((b + length ys) - b) l) (drop_at w.before (ys ++ w.after) b w.far)
@@ -58,4 +58,4 @@ within_cut xs b ys w =
 
 -- a list within itself
 pub within_whole : {A : Type 0} (xs : List A) → Within xs 0 xs
-within_whole xs = record { before = []; after = []; is = sym (append_nil xs); far = refl }
+within_whole xs = record { before = []; after = []; is = sym (append-nil xs); far = refl }

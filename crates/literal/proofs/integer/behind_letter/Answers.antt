@@ -1,4 +1,4 @@
-use Rattle.std.proofs.Common.{◌≡◌, ℕ, ◌+◌, ◌-◌, cond, length, take, drop, Some, None, sym, ap, ◌∙◌, arith, length-drop, eq_eqb, ne_eqb}
+use Rattle.std.proofs.Common.{◌≡◌, ℕ, ◌+◌, ◌-◌, cond, length, take, drop, Some, None, sym, ap, ◌∙◌, arith, length-drop, eq-eqb, ne_eqb}
 use Rattle.std.proofs.lemmas.List.{take_all}
 use Rattle.literal.specs.Digits.{without}
 use Rattle.literal.specs.Numerals.{next}
@@ -11,7 +11,7 @@ returns-then-b-letter c =
     let rest = drop (c.loop-i.i + 1) text in
     ap (λ l. Some (without l)) (take_all (length text - (c.loop-i.i + 1)) rest (omega (arith, length-drop (c.loop-i.i + 1) text)))
     ∙ sym (next_here c.args.letter text c.loop-i.i c.loop-i-test.true c.if-b-ne95.true c.loop-i.invariant
-    ∙ ap (λ b. cond b (Some (without rest)) None) (eq_eqb _ _ c.if-b-letter.true))
+    ∙ ap (λ b. cond b (Some (without rest)) None) (eq-eqb _ _ c.if-b-letter.true))
 
 pub returns-else-b-letter : goal.returns-else-b-letter
 returns-else-b-letter c =

@@ -1,5 +1,5 @@
 use Rattle.std.proofs.Common.{ℕ, ◌+◌, List, ◌++◌, get_or, drop, string_bytes, sym, ap, ◌∙◌}
-use Rattle.std.proofs.lemmas.List.{append_nil, append_assoc, drop_more, drop_all}
+use Rattle.std.proofs.lemmas.List.{append-nil, append_assoc, drop_more, drop_all}
 use Rattle.outline.specs.Shown.{byte_text, bytes_text}
 use Rattle.outline.proofs.print.put_bytes.Goals as goal
 
@@ -17,6 +17,6 @@ pub returns : goal.returns
 returns c =
     let bytes : List ℕ = c.args.bytes.now in
     let before : List ℕ = string_bytes c.loop-byte.out in
-    sym (append_nil before)
+    sym (append-nil before)
     ∙ ap (λ l. before ++ bytes_text l) (sym (drop_all c.loop-byte.byte-index bytes c.loop-byte-test.false))
     ∙ c.loop-byte.invariant

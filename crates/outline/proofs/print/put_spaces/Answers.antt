@@ -1,5 +1,5 @@
 use Rattle.std.proofs.Common.{◌≡◌, ℕ, suc, ◌+◌, ◌-◌, List, ◌++◌, string_bytes, codes, sym, ap, ◌∙◌, arith}
-use Rattle.std.proofs.lemmas.List.{append_nil, append_assoc}
+use Rattle.std.proofs.lemmas.List.{append-nil, append_assoc}
 use Rattle.outline.specs.Shown.{spaces}
 use Rattle.outline.proofs.print.put_spaces.Goals as goal
 
@@ -21,4 +21,4 @@ loop-preserved c =
 pub returns : goal.returns
 returns c =
     let none : 0 ≡ c.args.depth - c.loop.counter = omega arith in
-    sym (append_nil (string_bytes c.loop.out)) ∙ ap (λ n. string_bytes c.loop.out ++ spaces n) none ∙ c.loop.invariant
+    sym (append-nil (string_bytes c.loop.out)) ∙ ap (λ n. string_bytes c.loop.out ++ spaces n) none ∙ c.loop.invariant

@@ -1,4 +1,4 @@
-use Rattle.std.proofs.Common.{◌≡◌, ℕ, true, false, cond, eqb, List, set, sym, ap, ◌∙◌, eq_eqb, ne_eqb}
+use Rattle.std.proofs.Common.{◌≡◌, ℕ, true, false, cond, eqb, List, set, sym, ap, ◌∙◌, eq-eqb, ne_eqb}
 use Rattle.tree.specs.declared.slot.Slot.{Slot}
 use Rattle.tree.specs.Memory.{Memory, memory_of, counted, linked, adopted, adopted_root, with_first}
 use Rattle.tree.proofs.Pendings.{same_memory, grows_from}
@@ -12,7 +12,7 @@ returns-then-parent-eq0 c =
     let n : ℕ = counted m.used in
     let slots : List Slot = set m.slots m.used p.root in
     let place = c.place-child.ensures in
-    let test : eqb parent.first 0 ≡ true = eq_eqb parent.first 0 c.if-parent-eq0.true in
+    let test : eqb parent.first 0 ≡ true = eq-eqb parent.first 0 c.if-parent-eq0.true in
     let root : with_first parent c.place-child.result ≡ adopted_root parent n =
     ap (λ k. with_first parent k) place.value ∙ sym (ap (λ q. cond q (with_first parent n) parent) test) in
     let memory : memory_of c.place-child.new.self ≡ adopted parent c.args.last p.root m =
