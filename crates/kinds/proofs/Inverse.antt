@@ -1,5 +1,5 @@
 -- A kind and its number determine each other.
-use Rattle.std.proofs.Common.{◌≡◌, ℕ, zero, suc, ◌+◌, Bool, true, false, ◌&&◌, eqb, List, [], ◌∷◌, Some, None, sym, refl, ap, ◌∙◌, add-zero, add-suc, arith, eqb-true}
+use Rattle.std.proofs.Common.{◌≡◌, ℕ, zero, suc, ◌+◌, Bool, true, false, ◌&&◌, eqb, List, [], ◌∷◌, Some, sym, refl, ap, ◌∙◌, add-zero, arith, eqb-true}
 use Rattle.kinds.specs.At.{at}
 use Rattle.kinds.specs.Kinds.{kinds, kind_of, number_of}
 use Rattle.kinds.specs.declared.kind.SyntaxKind.{SyntaxKind}

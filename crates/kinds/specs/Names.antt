@@ -1,5 +1,5 @@
 -- The kinds by their names.
-use Rattle.std.specs.Prelude.{ℕ, zero, suc, Bool, true, false, cond, ◌&&◌, List, [], ◌∷◌, codes, Option, ◌==◌, slice_index_or}
+use Rattle.std.specs.Prelude.{ℕ, suc, Bool, true, false, cond, ◌&&◌, List, [], ◌∷◌, codes, Option, ◌==◌, slice_index_or}
 use Rattle.kinds.specs.Kinds.{number_of, kind_of}
 use Rattle.kinds.specs.declared.kind.SyntaxKind.{SyntaxKind}
 

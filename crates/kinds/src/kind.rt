@@ -1,9 +1,7 @@
 ghost use Rattle.std.specs.Prelude.{◌≡◌, ◌<◌, ◌≤◌, [], Some, MatchOption, slice_index_or};
-ghost use Rattle.kinds.specs.Kinds.{number_of, kind_of, same};
+ghost use Rattle.kinds.specs.Kinds.{number_of, kind_of, same, same_laws};
 ghost use Rattle.kinds.specs.Names.{names, name_of, place_of, kind_named};
 ghost use Rattle.kinds.specs.declared.kind.SyntaxKind.{SyntaxKind};
-ghost use Rattle.std.specs.Cmp.Rules.{comparing};
-ghost use Rattle.std.proofs.Common.{rules};
 
 // Each kind of node or token of a syntax tree, under the original's names and in its order.
 #[derive(Clone, Copy)]
@@ -481,7 +479,7 @@ impl SyntaxKind {
 impl PartialEq for SyntaxKind {
     ghost eq = { λ a b. same a b };
 
-    ghost laws = { Prim.search (comparing, rules) };
+    ghost laws = { same_laws };
 
     fn eq(&self, other: &SyntaxKind) -> bool {
         self.number() == other.number()

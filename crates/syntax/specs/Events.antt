@@ -1,5 +1,5 @@
 -- Which events are trivia, which are boundaries, and the blank.
-use Rattle.std.specs.Prelude.{ℕ, Bool, false, ◌||◌}
+use Rattle.std.specs.Prelude.{Bool, false, ◌||◌}
 use Rattle.syntax.specs.declared.event.Event.{Event}
 use Rattle.syntax.specs.declared.event.Event.TheVariants.{Error, Begin, End, Token}
 use Rattle.kinds.specs.declared.kind.SyntaxKind.TheVariants.{COMMENT, WHITESPACE, NEWLINE, IMPORT_STMT, INCLUDE_STMT, RULE_DECL, SOURCE_FILE}

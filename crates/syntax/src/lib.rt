@@ -1,4 +1,6 @@
 // Spans and events of a YARA syntax tree.
+#![tactic(auto)]
+
 mod event;
 mod span;
 
