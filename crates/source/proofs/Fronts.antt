@@ -1,10 +1,9 @@
 -- What the bytes mean, by what stands first in them.
-use Rattle.std.proofs.Common.{◌≡◌, ℕ, zero, suc, ◌+◌, ◌-◌, ◌^◌, ◌<◌, ◌≤◌, List, [], ◌∷◌, length, get_or, take, drop, sym, refl, ap, ◌∙◌, arith, length-drop}
+use Rattle.std.proofs.Common.{◌≡◌, ℕ, zero, suc, ◌-◌, ◌≤◌, List, [], ◌∷◌, length, take, drop, sym, refl, ap, ◌∙◌, arith}
 use Rattle.std.proofs.lemmas.List.{take_rest}
 use Rattle.std.proofs.lemmas.Bool.Decides.{nat_tests}
 use Rattle.syntax.specs.declared.event.Event.{Event}
 use Rattle.source.specs.declared.close.Close.{Close}
-use Rattle.source.specs.declared.close.Fault.{Fault}
 use Rattle.source.specs.declared.close.Next.{Next}
 use Rattle.source.specs.declared.close.Next.TheVariants.{Closed}
 use Rattle.source.specs.Meaning.{next_of, rest_of}

@@ -1,11 +1,10 @@
 -- Packed bytes mean what is read from them, and nothing else.
-use Rattle.std.proofs.Common.{◌≡◌, ℕ, zero, suc, ◌+◌, ◌-◌, ◌*◌, ◌<◌, ◌≤◌, Bool, true, false, eqb, ltb, ◌⊎◌, List, [], ◌∷◌, length, get_or, drop, Some, None, Option, sym, refl, ap, ◌∙◌, subst, subst₂, inl, inr, arith}
+use Rattle.std.proofs.Common.{◌≡◌, ℕ, zero, suc, ◌+◌, ◌<◌, ◌≤◌, List, [], ◌∷◌, length, get_or, drop, Some, None, Option, sym, refl, ap, ◌∙◌, subst, subst₂, inl, inr, arith}
 use Rattle.std.proofs.lemmas.Bool.Decides.{nat_tests, leb_tells, eqb_tells}
 use Rattle.syntax.specs.declared.event.Event.{Event}
 use Rattle.syntax.specs.Spans.{span_of}
 use Rattle.source.specs.declared.close.Close.{Close}
 use Rattle.source.specs.declared.close.Fault.{Fault}
-use Rattle.source.specs.declared.close.Next.{Next}
 use Rattle.source.specs.declared.close.Next.TheVariants.{Closed}
 use Rattle.source.specs.Records.{two, four, size_of, event_of}
 use Rattle.source.specs.Means.{Means, ended, given, head_cut, unknown_tag, wrong_length, payload_cut, unknown_kind}

@@ -1,10 +1,8 @@
 -- What was written, then the end, means the events written.
-use Rattle.std.proofs.Common.{◌≡◌, ℕ, ◌+◌, ◌*◌, ◌/◌, ◌%◌, Bool, true, cond, List, [], ◌∷◌, ◌++◌, Some, sym, refl, ap, ◌∙◌, subst, append_assoc, arith}
+use Rattle.std.proofs.Common.{◌≡◌, ℕ, ◌/◌, ◌%◌, Bool, true, cond, List, [], ◌∷◌, ◌++◌, Some, sym, refl, ap, ◌∙◌, subst, arith}
 use Rattle.syntax.specs.declared.event.Event.{Event}
 use Rattle.syntax.specs.declared.event.Event.TheVariants.{Error, Begin, End, Token}
-use Rattle.syntax.specs.declared.span.Span.{Span}
 use Rattle.syntax.specs.Events.{span_at}
-use Rattle.kinds.specs.Kinds.{kind_of}
 use Rattle.syntax.specs.Spans.{span_of}
 use Rattle.kinds.proofs.Inverse.{kind_of_number}
 use Rattle.source.specs.declared.close.Close.{Close}

@@ -1,5 +1,5 @@
 -- What packed bytes mean: a list of events, and then the end or a fault.
-use Rattle.std.specs.Prelude.{◌≡◌, ℕ, ◌<◌, ◌≤◌, List, [], ◌∷◌, ◌++◌, length, Some, None, ◌≢◌}
+use Rattle.std.specs.Prelude.{◌≡◌, ℕ, ◌<◌, ◌≤◌, List, [], ◌∷◌, length, Some, None, ◌≢◌}
 use Rattle.syntax.specs.declared.event.Event.{Event}
 use Rattle.syntax.specs.Spans.{span_of}
 use Rattle.source.specs.declared.close.Close.{Close}

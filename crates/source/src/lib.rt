@@ -1,4 +1,6 @@
 // Where events come from: what a source of events means, and two kinds of source.
+#![tactic(auto)]
+
 mod close;
 mod event_source;
 mod pack;

@@ -5,6 +5,6 @@ use Rattle.source.proofs.pack.append_end.Goals as goal
 pub returns : goal.returns
 returns c =
     record {
-      items = c.extend-from-slice.ensures.items;
-      ok = append_means (vec_items c.args.bytes.now) _ _ c.extend-from-slice.ensures.items;
+      items = c.extend_from_slice.ensures.items;
+      ok = append_means (vec_items c.args.bytes.now) _ _ c.extend_from_slice.ensures.items;
     }

@@ -1,5 +1,4 @@
 use Rattle.std.proofs.Common.{◌^◌, ◌<◌, length, refl, ◌∙◌, arith, rules}
-use Rattle.source.specs.Reading.{events_in}
 use Rattle.source.proofs.Fronts.{front_next, event_rest, event_same, closed_rest, events_few}
 use Rattle.source.proofs.packed.split.Goals as goal
 
