@@ -1,4 +1,6 @@
 // The command line of Gathnomir.
+#![tactic(auto)]
+
 mod demo;
 mod failure;
 mod listing;

@@ -1,4 +1,6 @@
 // How long it takes to read events from packed bytes and from a row.
+#![tactic(auto)]
+
 use source::{EventSource, Next, Packed, Row};
 use std::alloc::{AllocError, Global};
 use std::time::Instant;

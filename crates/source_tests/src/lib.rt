@@ -1,4 +1,6 @@
 // Examples for kinds, spans, events and their sources.
+#![tactic(auto)]
+
 #[cfg(test)]
 mod packed;
 #[cfg(test)]
