@@ -11,6 +11,7 @@ mod value;
 use failure::Failure;
 use source::Packed;
 use std::io::{BufWriter, Write};
+use std::process::ExitCode;
 use std::{env, fs};
 
 const USAGE: &str = "usage: gathnomir events SOURCE EVENTS
@@ -23,15 +24,15 @@ const USAGE: &str = "usage: gathnomir events SOURCE EVENTS
        gathnomir help
            print this text";
 
-fn main(rt: HostRuntime) -> Result<(), Failure> {
+fn main(rt: HostRuntime) -> ExitCode {
     match run(&rt) {
-        Ok(()) => Ok(()),
+        Ok(()) => ExitCode::SUCCESS,
         Err(failure) => {
             let _ = match failure {
                 Failure::Usage => eprintln!(rt; "{USAGE}"),
                 _ => eprintln!(rt; "gathnomir: {failure}"),
             };
-            Err(failure)
+            ExitCode::FAILURE
         }
     }
 }

@@ -1,5 +1,5 @@
 -- Parts of the source, and text among them.
-use Rattle.std.proofs.Common.{◌≡◌, ℕ, zero, suc, ◌+◌, ◌-◌, ◌^◌, ◌<◌, ◌≤◌, min, true, false, cond, eqb, List, [], ◌∷◌, ◌++◌, length, take, drop, Ok, Err, IsUtf8, sym, refl, ap, ◌∙◌, subst, inl, inr, ⊎_elim, arith, length-append, length-drop, length-take, eq-eqb, ne_eqb}
+use Rattle.std.proofs.Common.{◌≡◌, ℕ, ◌+◌, ◌-◌, ◌<◌, ◌≤◌, min, true, List, [], ◌++◌, length, take, drop, Ok, Err, IsUtf8, sym, ap, ◌∙◌, subst, ⊎_elim, arith, length-append, length-drop, length-take, eq-eqb, ne_eqb}
 use lib.Utf8.{scalar, scalars, encode}
 use Rattle.std.specs.Str.{IsValidUpTo}
 use Rattle.std.specs.Char.{len_utf8}

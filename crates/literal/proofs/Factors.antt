@@ -1,9 +1,8 @@
 -- Suffixes and prefixes of integers.
-use Rattle.std.proofs.Common.{◌≡◌, ℕ, zero, suc, ◌+◌, ◌-◌, ◌*◌, ◌^◌, ◌<◌, ◌≤◌, Bool, true, false, cond, ◌&&◌, eqb, ltb, leb, List, [], ◌∷◌, length, get_or, take, drop, ℤ, pos, ◌-ℤ◌, Some, None, Ok, Err, Option, sym, refl, ap, ◌∙◌, subst, inl, inr, ⊎_elim, le-mul_of_pos_right, arith, lt-ltb, eq-eqb, le-leb, leb-false, leb-true}
+use Rattle.std.proofs.Common.{◌≡◌, ℕ, ◌-◌, ◌*◌, ◌^◌, ◌<◌, ◌≤◌, Bool, true, false, cond, leb, List, [], ◌∷◌, length, get_or, drop, ℤ, pos, ◌-ℤ◌, Some, None, Ok, Err, Option, sym, refl, ap, ◌∙◌, ⊎_elim, le-mul_of_pos_right, arith, lt-ltb, eq-eqb, le-leb, leb-false, leb-true}
 use borrow.Author.Tests.{lt-leb}
 use Rattle.std.specs.Option.{SomeIff, option_map, ok_or}
 use Rattle.syntax.specs.declared.span.Span.{Span}
-use Rattle.literal.specs.declared.integer.Integer.{Integer}
 use Rattle.refusal.specs.declared.refusal.Refusal.TheVariants.{InvalidInteger}
 use Rattle.literal.specs.Texts.{place_in}
 use Rattle.std.proofs.lemmas.Bool.{cases_Bool}

@@ -1,9 +1,8 @@
 -- The front that `valid_prefix` measures is made of whole characters, and is the longest that is.
-use Rattle.std.proofs.Common.{◌≡◌, ℕ, zero, suc, ◌+◌, ◌-◌, ◌<◌, ◌≤◌, Bool, true, false, cond, ◌&&◌, ltb, leb, ◌⊎◌, List, [], ◌∷◌, ◌++◌, length, take, drop, sym, refl, ap, ◌∙◌, subst, inl, inr, ⊎_elim, append_assoc, append-nil, add_assoc, zero-add, arith, length-append, length-drop, take-append-drop, length-take, take-add, le-leb, leb-false, leb-true}
+use Rattle.std.proofs.Common.{◌≡◌, ℕ, zero, suc, ◌+◌, ◌<◌, ◌≤◌, Bool, true, false, cond, ◌&&◌, leb, List, [], ◌∷◌, ◌++◌, length, take, drop, sym, refl, ap, ◌∙◌, subst, inl, inr, ⊎_elim, append_assoc, zero-add, arith, length-append, length-drop, take-append-drop, length-take, le-leb, leb-true}
 use lib.Seq.{drop-append_seam}
-use Rattle.std.proofs.lemmas.List.{take-append-le}
-use borrow.Author.Tests.{lt-leb, both_ways}
-use Rattle.std.proofs.lemmas.Bool.{and_parts, and_from, cases_Bool, and_left, and_right}
+use borrow.Author.Tests.{lt-leb}
+use Rattle.std.proofs.lemmas.Bool.{and_parts, cases_Bool, and_left, and_right}
 use Rattle.literal.specs.Utf8.{Range, forms, OneOf, Follows, Characters, none, more, begins, bytes_by, char_bytes, valid_from, valid_prefix, Longest}
 
 -- ---- the rows begin with different bytes, in rising order

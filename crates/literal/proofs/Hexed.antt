@@ -1,19 +1,19 @@
 -- Strings and floats read back what they write.
-use Rattle.std.proofs.Common.{◌≡◌, ℕ, zero, suc, ◌+◌, ◌-◌, ◌*◌, ◌/◌, ◌%◌, ◌<◌, ◌≤◌, Bool, true, false, cond, ◌&&◌, eqb, ltb, leb, List, [], ◌∷◌, ◌++◌, length, get_or, take, drop, Some, None, Ok, Err, Option, sym, refl, ap, ◌∙◌, subst, ⊎_elim, append-nil, arith, length-append, ltb-true, le-ltb, lt-ltb, eq-eqb, ne_eqb, eqb-true, le-leb}
+use Rattle.std.proofs.Common.{◌≡◌, ℕ, suc, ◌+◌, ◌-◌, ◌*◌, ◌/◌, ◌%◌, ◌<◌, ◌≤◌, true, false, cond, eqb, ltb, leb, List, [], ◌∷◌, ◌++◌, length, get_or, take, Some, None, Ok, Err, sym, refl, ap, ◌∙◌, subst, ⊎_elim, append-nil, arith, length-append, le-ltb, lt-ltb, eq-eqb, ne_eqb, le-leb}
 use borrow.Author.Tests.{lt-leb}
 use Rattle.std.specs.Option.{option_map}
 use Rattle.std.specs.Char.{digit_value, digit_char}
-use Rattle.std.proofs.lemmas.Bool.{cases_lt, and_from, and_parts, and_left, and_right, cases_Bool}
+use Rattle.std.proofs.lemmas.Bool.{cases_lt, and_from, and_parts, and_left}
 use Rattle.syntax.specs.declared.span.Span.{Span}
 use Rattle.refusal.specs.declared.refusal.Refusal.TheVariants.{BadToken, InvalidFloat}
-use Rattle.literal.specs.declared.string.StringValue.TheVariants.{Source, Decoded}
+use Rattle.literal.specs.declared.string.StringValue.TheVariants.{Decoded}
 use Rattle.literal.specs.Digits.{number_of, are_digits, written, without}
 use Rattle.literal.specs.Escapes.{hex_of, Stands, nothing, hex, reading, reading_from}
-use Rattle.literal.specs.Floats.{whole, fraction, decimal_of, rounded, as_float}
-use Rattle.literal.specs.Laws.{as_hex, all_as_hex, Bytes, Spread, EscapedBytesReadBack, DecimalsReadBack}
+use Rattle.literal.specs.Floats.{whole, fraction, rounded, as_float}
+use Rattle.literal.specs.Laws.{all_as_hex, Bytes, EscapedBytesReadBack, DecimalsReadBack}
 use Rattle.literal.specs.Regexps.{has}
-use Rattle.literal.specs.Strings.{opens_three, quoted, inner, escape_refusal, value_of, as_string, decoded_in}
-use Rattle.literal.specs.Texts.{place_in, or_else}
+use Rattle.literal.specs.Strings.{opens_three, quoted, inner, escape_refusal, value_of}
+use Rattle.literal.specs.Texts.{or_else}
 use Rattle.literal.proofs.Numbers.{Free, free_digits, free_cons, spread_without}
 use Rattle.literal.proofs.Standing.{complete}
 

@@ -1,5 +1,5 @@
 -- Slashes and modifiers of regular expressions.
-use Rattle.std.proofs.Common.{◌≡◌, ℕ, zero, suc, ◌+◌, ◌-◌, ◌<◌, ◌≤◌, Bool, true, false, cond, ◌&&◌, ◌||◌, eqb, List, [], ◌∷◌, ◌++◌, length, get_or, take, drop, Some, None, Ok, Err, IsUtf8, Option, sym, refl, ap, ◌∙◌, subst, add-one, arith, length-append, length-drop, length-take, drop-cons, eq-eqb, ne_eqb}
+use Rattle.std.proofs.Common.{◌≡◌, ℕ, suc, ◌+◌, ◌-◌, ◌<◌, ◌≤◌, Bool, true, false, cond, ◌||◌, eqb, List, [], ◌∷◌, ◌++◌, length, get_or, take, drop, Some, None, Ok, Err, IsUtf8, Option, sym, refl, ap, ◌∙◌, subst, add-one, arith, length-append, length-drop, length-take, drop-cons, eq-eqb, ne_eqb}
 use lib.Utf8.{encode}
 use borrow.Author.Tests.{eqb-false}
 use Rattle.std.proofs.lemmas.List.{take_more, take_all}

@@ -1,18 +1,18 @@
 -- Integers read back what they write.
-use Rattle.std.proofs.Common.{◌≡◌, ℕ, zero, suc, ◌+◌, ◌-◌, ◌*◌, ◌^◌, ◌<◌, ◌≤◌, Bool, true, false, cond, ◌&&◌, eqb, ltb, leb, List, [], ◌∷◌, ◌++◌, map, length, get_or, take, ℤ, pos, negsuc, ◌-ℤ◌, neg_ℤ, Some, None, Ok, Err, Option, sym, refl, ap, ◌∙◌, subst, ⊎_elim, zero-mul, mul-one, arith, ltb-true, le-ltb, lt-ltb, eq-eqb, ne_eqb, eqb-true, le-leb}
+use Rattle.std.proofs.Common.{◌≡◌, ℕ, zero, suc, ◌+◌, ◌-◌, ◌*◌, ◌^◌, ◌<◌, ◌≤◌, true, false, cond, eqb, ltb, leb, List, [], ◌∷◌, map, length, get_or, take, pos, negsuc, ◌-ℤ◌, neg_ℤ, Some, None, Ok, Err, sym, refl, ap, ◌∙◌, subst, ⊎_elim, zero-mul, mul-one, arith, ltb-true, le-ltb, lt-ltb, eq-eqb, ne_eqb, le-leb}
 use native.Mathlib.Nat.{pow-zero}
-use borrow.Author.Tests.{eqb-false, lt-leb}
+use borrow.Author.Tests.{lt-leb}
 use Rattle.std.specs.Option.{option_map, ok_or}
-use Rattle.std.specs.Str.Parse.{digits_value, digits_value_after}
+use Rattle.std.specs.Str.Parse.{digits_value_after}
 use Rattle.std.specs.Char.{digit_value, digit_char}
-use Rattle.std.specs.Int.Digits.{digits_of, number_from_digits, number_from_digits_after, AllBelowBase}
+use Rattle.std.specs.Int.Digits.{digits_of, number_from_digits, AllBelowBase}
 use Rattle.std.proofs.lemmas.Int.Digits.{number_digits_of, all_below_base_digits_of, digits_value_is, length-digits_of_step}
-use Rattle.std.proofs.lemmas.Bool.{and_parts, and_from, and_left, and_right, cases_Bool, cases_eq}
+use Rattle.std.proofs.lemmas.Bool.{and_parts, and_from, and_left, and_right, cases_eq}
 use Rattle.std.proofs.lemmas.Str.{digit_value-digit_char}
 use Rattle.syntax.specs.declared.span.Span.{Span}
 use Rattle.refusal.specs.declared.refusal.Refusal.TheVariants.{InvalidInteger}
 use Rattle.literal.specs.Digits.{number_of, are_digits, written, without, up_to}
-use Rattle.literal.specs.Integers.{ends, before, factor, behind, plain_number, integer_number, pattern, literal, as_integer, is_least, is_positive, negated}
+use Rattle.literal.specs.Integers.{ends, before, factor, behind, plain_number, integer_number, pattern, literal, is_least, is_positive, negated}
 use Rattle.literal.specs.Laws.{Writes, Spread, end, keep, under, ReadsAs, IntegersReadBack, NegativesFold}
 use Rattle.literal.specs.Texts.{place_in, or_else}
 use Rattle.literal.proofs.Sums.{place_pow}

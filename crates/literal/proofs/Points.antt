@@ -1,12 +1,11 @@
 -- Reading the digits of a float one by one.
-use Rattle.std.proofs.Common.{◌≡◌, ℕ, zero, suc, ◌+◌, ◌-◌, ◌*◌, ◌^◌, ◌<◌, ◌≤◌, min, Bool, true, false, cond, not, ◌&&◌, ◌||◌, eqb, ltb, leb, List, [], ◌∷◌, ◌++◌, length, get_or, drop, Some, None, Option, sym, refl, ap, ◌∙◌, subst, ⊎_elim, mul-le-mul_right, zero-mul, arith, ltb-false, ltb-true, lt-ltb, eq-eqb, ne_eqb, eqb-true}
-use native.Mathlib.Nat.{pow-zero, one-le-pow}
-use borrow.Author.Tests.{eqb-false}
+use Rattle.std.proofs.Common.{◌≡◌, ℕ, suc, ◌+◌, ◌-◌, ◌*◌, ◌^◌, ◌<◌, ◌≤◌, Bool, true, false, cond, not, ◌&&◌, ◌||◌, eqb, ltb, List, [], ◌∷◌, ◌++◌, length, get_or, drop, Some, None, Option, sym, refl, ap, ◌∙◌, subst, ⊎_elim, zero-mul, arith, eqb-true}
+use native.Mathlib.Nat.{one-le-pow}
 use Rattle.std.specs.Option.{option_map}
 use Rattle.std.specs.Char.{digit_value}
 use Rattle.std.proofs.lemmas.Bool.{cases_Bool, cases_lt}
 use Rattle.literal.specs.declared.float.Decimal.{Decimal}
-use Rattle.literal.specs.Digits.{number_of, are_digits, written, without}
+use Rattle.literal.specs.Digits.{number_of, are_digits, without}
 use Rattle.literal.specs.Floats.{whole, fraction, decimal_of}
 use Rattle.literal.specs.Numerals.{capped, capped_pair, with_digit, with_dot, pushed_byte}
 use Rattle.literal.proofs.Sums.{place_pow, grown, some_more, without_skip, without_keep, without_end}

@@ -1,5 +1,5 @@
 -- A whole number up to 2 ^ 53 over a power of ten up to the fifteenth is one rounding away from its exact quotient.
-use Rattle.std.proofs.Common.{◌≡◌, ℕ, zero, suc, ◌+◌, ◌-◌, ◌*◌, ◌^◌, ◌<◌, ◌≤◌, Bool, true, false, cond, eqb, ◌⊎◌, pos, sym, refl, ap, ◌∙◌, subst, inl, inr, ⊎_elim, le_trans, mul_assoc, mul_comm, eq-or-lt_of_le, mul-pos, mul-one, arith, lit<, lit≤, shl_lt, ne_eqb}
+use Rattle.std.proofs.Common.{◌≡◌, ℕ, ◌*◌, ◌^◌, ◌<◌, ◌≤◌, true, false, eqb, ◌⊎◌, pos, sym, refl, ap, ◌∙◌, subst, inl, inr, ⊎_elim, le_trans, mul_assoc, mul_comm, eq-or-lt_of_le, mul-pos, mul-one, arith, lit<, lit≤, shl_lt, ne_eqb}
 use native.Mathlib.Nat.{pow-le-pow_right}
 use lib.Ieee.{Float, nan, inf, fin, Format, binary64, up, down, div, of_int, round}
 use lib.Ieee.Exact.{HasValue, round_exact}

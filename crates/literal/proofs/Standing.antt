@@ -1,13 +1,13 @@
 -- The reading of a text is what the language of escapes says, and nothing else is.
-use Rattle.std.proofs.Common.{◌≡◌, ℕ, zero, suc, ◌+◌, ◌-◌, ◌*◌, ◌<◌, ◌≤◌, Bool, true, false, cond, eqb, List, [], ◌∷◌, ◌++◌, length, get_or, drop, Some, None, Ok, Err, Option, Result, sym, refl, ap, ◌∙◌, subst, ⊎_elim, append_assoc, append-nil, arith, length-append, length-drop, eqb-true, MatchOption}
+use Rattle.std.proofs.Common.{◌≡◌, ℕ, zero, suc, ◌+◌, ◌-◌, ◌*◌, ◌<◌, Bool, true, false, cond, eqb, List, [], ◌∷◌, ◌++◌, length, get_or, drop, Some, None, Ok, Err, Option, sym, refl, ap, ◌∙◌, subst, ⊎_elim, append-nil, arith, length-append, eqb-true, MatchOption}
 use lib.Seq.{drop-append_seam}
 use borrow.Author.Tests.{eqb-false}
 use Rattle.std.proofs.lemmas.Bool.{cases_Bool}
 use Rattle.std.specs.Option.{option_map}
-use Rattle.literal.specs.Escapes.{simple, hex_of, hex_pair, escape, first, Stands, nothing, plain, letter, hex, BadEscape, Reading, put, reading_from, reading, Means, Readings}
+use Rattle.literal.specs.Escapes.{simple, hex_of, hex_pair, escape, Stands, nothing, plain, letter, hex, BadEscape, Reading, put, reading_from, reading, Means, Readings}
 use Rattle.literal.specs.Machine.{count_of}
 use Rattle.literal.specs.Texts.{or_else}
-use Rattle.literal.proofs.Escaping.{read_some, read_none, read_plain, read_letter, read_hex}
+use Rattle.literal.proofs.Escaping.{read_none, read_plain, read_letter, read_hex}
 
 abbrev after : List ℕ → Reading → Reading
 after ds r = record { bytes = ds ++ r.bytes; stop = r.stop }

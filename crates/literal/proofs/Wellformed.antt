@@ -1,10 +1,9 @@
 -- The rows of the table are the encodings of Unicode's characters, and the front that `valid_prefix` measures is the longest.
-use Rattle.std.proofs.Common.{◌≡◌, ℕ, zero, suc, ◌+◌, ◌-◌, ◌*◌, ◌/◌, ◌<◌, ◌≤◌, Bool, true, false, cond, ◌&&◌, ltb, leb, ◌⊎◌, List, [], ◌∷◌, ◌++◌, length, take, drop, IsUtf8, sym, refl, ap, ◌∙◌, subst, inl, inr, ⊎_elim, append_assoc, append-nil, arith, length-append, le-ltb, lt-ltb, le-leb, leb-true}
+use Rattle.std.proofs.Common.{◌≡◌, ℕ, ◌+◌, ◌-◌, ◌*◌, ◌/◌, ◌<◌, ◌≤◌, true, List, [], ◌∷◌, IsUtf8, sym, refl, subst, inl, inr, ⊎_elim, arith, le-ltb, lt-ltb, le-leb}
 use lib.Utf8.{scalar, scalars, encode, encodes, next, low_scalar, scalar_cases}
-use borrow.Author.Tests.{lt-leb}
 use Rattle.std.proofs.lemmas.Str.{IsUtf8-append, IsUtf8-encode, IsUtf8-nil}
-use Rattle.std.proofs.lemmas.Bool.{and_parts, and_from, cases_lt, cases_Bool, and_left, and_right}
-use Rattle.literal.specs.Utf8.{Range, forms, OneOf, Follows, Characters, none, more, begins, bytes_by, char_bytes, valid_from, valid_prefix, Longest}
+use Rattle.std.proofs.lemmas.Bool.{and_parts, cases_lt}
+use Rattle.literal.specs.Utf8.{Range, forms, OneOf, Follows, Characters, none, more}
 
 -- ---- a row's bytes encode a character
 

@@ -1,5 +1,5 @@
 -- The worked examples hold by computing.
-use Rattle.std.proofs.Common.{◌≡◌, refl}
+use Rattle.std.proofs.Common.{refl}
 use Rattle.literal.specs.Escapes.{reading_from}
 use Rattle.literal.specs.Examples.{Examples}
 use Rattle.literal.specs.Utf8.{valid_from}

@@ -1,5 +1,5 @@
 -- Which bytes a string stands for.
-use Rattle.std.specs.Prelude.{◌≡◌, ℕ, zero, suc, ◌+◌, ◌-◌, ◌*◌, Bool, cond, ◌&&◌, List, [], ◌∷◌, ◌++◌, length, Some, None, Option, MatchOption, ◌==◌, ◌≢◌, nat_le}
+use Rattle.std.specs.Prelude.{◌≡◌, ℕ, zero, suc, ◌+◌, ◌-◌, ◌*◌, cond, ◌&&◌, List, [], ◌∷◌, ◌++◌, Some, None, Option, MatchOption, ◌==◌, ◌≢◌, nat_le}
 use Rattle.std.specs.Option.{option_map}
 use Rattle.literal.specs.Texts.{or_else}
 

@@ -1,5 +1,5 @@
 -- Integer literals.
-use Rattle.std.specs.Prelude.{ℕ, ◌+◌, ◌-◌, ◌*◌, ◌^◌, Bool, true, false, cond, ◌&&◌, List, [], ◌∷◌, length, take, ℤ, pos, negsuc, ◌-ℤ◌, neg_ℤ, Some, None, Ok, Err, Option, Result, ◌==◌, int_lt, nat_le, nat_lt, slice_index}
+use Rattle.std.specs.Prelude.{ℕ, ◌-◌, ◌*◌, ◌^◌, Bool, false, cond, ◌&&◌, List, [], ◌∷◌, length, take, ℤ, pos, negsuc, ◌-ℤ◌, neg_ℤ, Some, None, Ok, Err, Option, Result, ◌==◌, int_lt, nat_le, nat_lt, slice_index}
 use Rattle.std.specs.Option.{option_map, ok_or}
 use Rattle.syntax.specs.declared.span.Span.{Span}
 use Rattle.literal.specs.declared.integer.Integer.{Integer}

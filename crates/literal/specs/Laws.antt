@@ -3,7 +3,6 @@ use Rattle.std.specs.Prelude.{◌≡◌, ℕ, ◌+◌, ◌/◌, ◌%◌, ◌^◌
 use Rattle.std.specs.Char.{digit_value, digit_char}
 use Rattle.std.specs.Int.Digits.{digits_of}
 use Rattle.syntax.specs.declared.span.Span.{Span}
-use Rattle.literal.specs.declared.integer.Integer.{Integer}
 use Rattle.refusal.specs.declared.refusal.Refusal.TheVariants.{BadToken, InvalidInteger}
 use Rattle.literal.specs.declared.string.StringValue.TheVariants.{Decoded}
 use Rattle.literal.specs.Digits.{number_of, are_digits}

@@ -1,5 +1,5 @@
 -- One step of the unescaper: what a state does with a byte.
-use Rattle.std.specs.Prelude.{ℕ, ◌+◌, ◌-◌, ◌*◌, ◌<◌, cond, List, length, Some, None, Ok, Err, Option, Result, ◌==◌}
+use Rattle.std.specs.Prelude.{ℕ, ◌+◌, ◌-◌, ◌*◌, ◌<◌, cond, List, length, Ok, Err, Result, ◌==◌}
 use Rattle.literal.specs.declared.unescape.State.{State}
 use Rattle.literal.specs.declared.unescape.State.TheVariants.{Plain, AfterBackslash, AfterX, AfterDigit}
 use Rattle.literal.specs.declared.unescape.Next.{Next}

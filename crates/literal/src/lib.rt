@@ -1,4 +1,6 @@
 // Names and literals of YARA conditions: from the bytes of a token to its value, or to a refusal.
+#![tactic(auto)]
+
 mod float;
 mod integer;
 mod laws;

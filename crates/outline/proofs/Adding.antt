@@ -20,9 +20,9 @@ last_adds (Ok v) a b d x y e f = f ∙ e
 last_adds (Err z) a b d x y e f = tt
 
 -- three texts are written, and one is left
-pub three-then :
+pub three_then :
     (a b c d x y z w : List ℕ) → b ≡ a ++ x → c ≡ b ++ y → d ≡ c ++ z → d ++ w ≡ a ++ (x ++ (y ++ (z ++ w)))
-three-then a b c d x y z w e f g =
+three_then a b c d x y z w e f g =
     ap (λ l. l ++ w) g ∙ append_assoc c z w
     ∙ ap (λ l. l ++ (z ++ w)) f ∙ append_assoc b y (z ++ w)
     ∙ ap (λ l. l ++ (y ++ (z ++ w))) e ∙ append_assoc a x (y ++ (z ++ w))

@@ -80,8 +80,8 @@ module _ (v : View) where
       ≡ node_text v d s
       ++ (below_text v d low n s.first ++ (between_text v s.next ++ trees_text v (top - suc n) d (suc n) top s.next))
   turned room k d low top n s e h l r a =
-      let below-same = enough k (n - low) (d + 1) low n s.first (omega (arith, e)) (omega arith) in
-      let behind-same = enough k (top - suc n) d (suc n) top s.next (omega (arith, e)) (omega arith) in
+      let below_same = enough k (n - low) (d + 1) low n s.first (omega (arith, e)) (omega arith) in
+      let behind_same = enough k (top - suc n) d (suc n) top s.next (omega (arith, e)) (omega arith) in
       ap (λ f. trees_text v f d low top (suc n)) e
       ∙ ap (turn d low top n k) (inside_from low top n h l)
       ∙ ap
@@ -92,10 +92,10 @@ module _ (v : View) where
       (λ x.
       node_text v d s
       ++ (wrapped v s.first x ++ (between_text v s.next ++ trees_text v k d (suc n) top s.next)))
-      below-same
+      below_same
       ∙ ap
       (λ x. node_text v d s ++ (below_text v d low n s.first ++ (between_text v s.next ++ x)))
-      behind-same
+      behind_same
 
   -- a link that is followed
   pub followed :

@@ -12,7 +12,7 @@ use Rattle.tree.specs.Trees.Trees.{none, more}
 use Rattle.tree.specs.Layout.{first_of, lay_tree, lay_trees, layout}
 use Rattle.tree.proofs.Layouts.{size_pos}
 use Rattle.tree.proofs.Within.{Within}
-use Rattle.tree.proofs.Held.{root_slot, root_next, size_below, last_of, root_at, below_in, first-in, later-in}
+use Rattle.tree.proofs.Held.{root_slot, root_next, size_below, last_of, root_at, below_in, first_in, later_in}
 use Rattle.outline.specs.declared.print.Form.{Form}
 use Rattle.outline.specs.declared.print.Form.TheVariants.{Outline, Line}
 use Rattle.outline.specs.declared.print.View.{View}
@@ -21,14 +21,14 @@ use Rattle.outline.specs.Whole.{around, before_more, tree_written, trees_written
 use Rattle.outline.proofs.Printed.{followed}
 
 -- links play no part in what is written of a node
-leaf-same :
+leaf_same :
     (l : Label) (c f n : ℕ) (source text : List ℕ) (k : Reading) →
     leaf_in k (slot_of l c f n) source text ≡ leaf_in k (slot_of l c 0 0) source text
-leaf-same l c f n source text as_name = refl
-leaf-same l c f n source text as_string = refl
-leaf-same l c f n source text as_regexp = refl
-leaf-same l c f n source text as_number = refl
-leaf-same l c f n source text not_read = refl
+leaf_same l c f n source text as_name = refl
+leaf_same l c f n source text as_string = refl
+leaf_same l c f n source text as_regexp = refl
+leaf_same l c f n source text as_number = refl
+leaf_same l c f n source text not_read = refl
 
 place_same : (form : Form) (l : Label) (c f n : ℕ) → place_in form (slot_of l c f n) ≡ place_in form (slot_of l c 0 0)
 place_same Outline l c f n = refl
@@ -44,7 +44,7 @@ module _ (v : View) where
       (λ o.
       indent_text v.form d
       ++ (name_of l.kind ++ (place_in v.form s ++ (said_in o (float_text s v.source.now) ++ flag_text s))))
-      (leaf-same l c f n v.source.now v.text.now (reading_of l.kind))
+      (leaf_same l c f n v.source.now v.text.now (reading_of l.kind))
 
   wrapped_some :
       (n : ℕ) (x : List ℕ) → 0 < n → wrapped v n x ≡ enter_text v.form ++ (x ++ leave_text v.form)
@@ -89,7 +89,7 @@ module _ (v : View) where
         let s : Slot = root_slot t b c k in
         let pos = size_pos t in
         let i : link - 1 ≡ b + sizes (below t) = omega (arith, size_below t) in
-        let here = first-in slots t ts b c w in
+        let here = first_in slots t ts b c w in
         let outer : List ℕ = trees_written v d (c + length (text_of t)) ts in
         followed v d b top link s (omega arith) (omega arith) (root_at slots t b c k (link - 1) i here)
         ∙ ap
@@ -101,18 +101,18 @@ module _ (v : View) where
         (λ x. node_text v d s ++ (below_text v d b (link - 1) s.first ++ (x ++ trees_text v (top - link) d link top k)))
         (between_trees link ts)
         ∙ ap (λ x. node_text v d s ++ (below_text v d b (link - 1) s.first ++ (before_more v ts ++ x)))
-        (trees_shown ts link (c + length (text_of t)) d top (later-in slots t ts b c w) (omega arith))
+        (trees_shown ts link (c + length (text_of t)) d top (later_in slots t ts b c w) (omega arith))
         ∙ sym (append_assoc (node_text v d s) (below_text v d b (link - 1) s.first) (before_more v ts ++ outer))
         ∙ ap (λ x. x ++ (before_more v ts ++ outer)) (node_shown t b c d k (link - 1) here i)
 
-  tree-shown :
+  tree_shown :
       (t : Tree) (others : List Slot) (n : ℕ) → v.slots.now ≡ layout t ++ others → n ≡ size t - 1 →
       show_text v n ≡ tree_written v 0 0 t
-  tree-shown t others n e i =
+  tree_shown t others n e i =
       let slots : List Slot = v.slots.now in
       let w : Within slots 0 (lay_tree t 0 0 0) = record { before = []; after = others; is = e; far = refl } in
       let at_n : n ≡ 0 + sizes (below t) = i ∙ last_of t in
       ap (show_at v n) (root_at slots t 0 0 0 n at_n w) ∙ node_shown t 0 0 0 0 n w at_n
 
 pub whole_from : (v : View) (n : ℕ) (written : List ℕ) → written ≡ show_text v n → Whole v n written
-whole_from v n written e t others f i = e ∙ tree-shown v t others n f i
+whole_from v n written e t others f i = e ∙ tree_shown v t others n f i

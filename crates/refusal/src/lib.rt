@@ -1,4 +1,6 @@
 // Why a condition is refused.
+#![tactic(auto)]
+
 mod refusal;
 
 pub use refusal::{Layer, Refusal};

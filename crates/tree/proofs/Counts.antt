@@ -38,10 +38,10 @@ off_at ss zero link k l = full_at ss 0 link refl k
 off_at ss (suc room) link k l =
     from_off ss (suc room) link room (link - 1) refl (omega arith) (sym (at_past ss (link - 1) (omega arith)))
 
-step-at :
+step_at :
     (ss : List Slot) (room link : ℕ) (d : Slot) → (room ≡ 0 → ⊥) → (link ≡ 0 → ⊥) → link ≤ length ss →
     count_from ss room link ≡ one_more (count_from ss (room - 1) (get_or ss (link - 1) d).next)
-step-at ss room link d h k l =
+step_at ss room link d h k l =
     from_step ss room link (room - 1) (link - 1) (get_or ss (link - 1) d) (omega arith) (omega arith)
     (sym (at_below ss (link - 1) d (omega arith)))
 
@@ -52,18 +52,18 @@ first_at ss n d h = let e = sym (at_below ss n d h) in rw e
 pub none_at : (ss : List Slot) (n : ℕ) → length ss ≤ n → operands_of ss n ≡ None
 none_at ss n h = let e = sym (at_past ss n h) in rw e
 
-pub loop-start :
+pub loop_start :
     (ss : List Slot) (n : ℕ) (d : Slot) → n < length ss →
     operands_of ss n ≡ plus 0 (count_from ss (length ss - 0) (get_or ss n d).first)
-loop-start ss n d h =
+loop_start ss n d h =
     let e : length ss - 0 ≡ length ss = omega arith in
     first_at ss n d h ∙ ap (λ m. count_from ss m (get_or ss n d).first) (sym e) ∙ sym (plus_none _)
 
-pub loop-step :
+pub loop_step :
     (ss : List Slot) (n link : ℕ) (d : Slot) → n ≤ length ss → (n ≡ length ss → ⊥) → (link ≡ 0 → ⊥) → link ≤ length ss →
     plus n (count_from ss (length ss - n) link) ≡ plus (n + 1) (count_from ss (length ss - (n + 1)) (get_or ss (link - 1) d).next)
-loop-step ss n link d b h k l =
-    ap (plus n) (step-at ss (length ss - n) link d (λ z. h (omega arith)) k l) ∙ plus_one n _
+loop_step ss n link d b h k l =
+    ap (plus n) (step_at ss (length ss - n) link d (λ z. h (omega arith)) k l) ∙ plus_one n _
     ∙ ap (λ m. plus (n + 1) (count_from ss m (get_or ss (link - 1) d).next)) (omega arith)
 
 pub loop_end : (ss : List Slot) (n room link : ℕ) → link ≡ 0 → plus n (count_from ss room link) ≡ Some n

@@ -65,10 +65,10 @@ module _ {A : Type 0} where
           ap (λ q. y ∷ q) (all k ys (le_of_suc-le-suc l)) ∙ ap (λ j. y ∷ (ys ++ replicate j blank)) less
 
   -- one more blank
-  pub blank-more :
+  pub blank_more :
       (blank : A) (m : List A) (b k i : ℕ) → i ≡ b + k →
       set (overlay m b (replicate k blank)) i blank ≡ overlay m b (replicate (k + 1) blank)
-  blank-more blank m b k i e =
+  blank_more blank m b k i e =
       ap (λ j. set (overlay m b (replicate k blank)) j blank) (e ∙ ap (λ j. b + j) (sym (length-replicate k blank)))
       ∙ sym (overlay-++ m b (replicate k blank) (blank ∷ []))
       ∙ ap (λ l. overlay m b l) (replicate_more k blank)

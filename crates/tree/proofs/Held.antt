@@ -58,16 +58,16 @@ module _ (slots : List Slot) where
   below_in l ts b c n w =
       within_first slots b (lay_trees ts b (c + length (own_text l.name))) (slot_of l c (first_of b ts) n ∷ []) w
 
-  pub first-in :
+  pub first_in :
       (t : Tree) (ts : Trees) (b c : ℕ) → Within slots b (lay_trees (more t ts) b c) →
       Within slots b (lay_tree t b c (first_of (b + size t) ts))
-  first-in t ts b c w =
+  first_in t ts b c w =
       within_first slots b (lay_tree t b c (first_of (b + size t) ts)) (lay_trees ts (b + size t) (c + length (text_of t))) w
 
-  pub later-in :
+  pub later_in :
       (t : Tree) (ts : Trees) (b c : ℕ) → Within slots b (lay_trees (more t ts) b c) →
       Within slots (b + size t) (lay_trees ts (b + size t) (c + length (text_of t)))
-  later-in t ts b c w =
+  later_in t ts b c w =
       within_later slots b (b + size t) (lay_tree t b c (first_of (b + size t) ts))
       (lay_trees ts (b + size t) (c + length (text_of t)))
       (ap (λ k. b + k) (sym (length_tree t b c (first_of (b + size t) ts))))
@@ -104,10 +104,10 @@ module _ (slots : List Slot) where
             n,
             root_slot t b c k,
             omega (arith, size_below t),
-            root_at t b c k n refl (first-in t ts b c w),
-            tree_held t b c k n refl (first-in t ts b c w) (within_first text c (text_of t) (texts_of ts) x),
+            root_at t b c k n refl (first_in t ts b c w),
+            tree_held t b c k n refl (first_in t ts b c w) (within_first text c (text_of t) (texts_of ts) x),
             subst F (sym (root_next t b c k))
-                (trees_held ts (b + size t) (c + length (text_of t)) (later-in t ts b c w)
+                (trees_held ts (b + size t) (c + length (text_of t)) (later_in t ts b c w)
                 (within_later text c (c + length (text_of t)) (text_of t) (texts_of ts) refl x)),
           )
 
@@ -131,11 +131,11 @@ module _ (slots : List Slot) where
       trees_reached (more t ts) b c link e w h =
           let k : ℕ = first_of (b + size t) ts in
           let n : h.0 ≡ b + sizes (below t) = omega (arith, e, h.2, size_below t) in
-          let s = some_same h.1 (root_slot t b c k) (at slots h.0) h.3 (root_at t b c k h.0 n (first-in t ts b c w)) in
-          ap (λ q. q ++ reached_by slots text h.1.next ts h.5) (tree_reached t b c k h.0 n (first-in t ts b c w) h.4)
+          let s = some_same h.1 (root_slot t b c k) (at slots h.0) h.3 (root_at t b c k h.0 n (first_in t ts b c w)) in
+          ap (λ q. q ++ reached_by slots text h.1.next ts h.5) (tree_reached t b c k h.0 n (first_in t ts b c w) h.4)
           ∙ ap (λ q. up_from b (size t) ++ q)
           (trees_reached ts (b + size t) (c + length (text_of t)) h.1.next (ap (λ x. x.next) s ∙ root_next t b c k)
-          (later-in t ts b c w)
+          (later_in t ts b c w)
           h.5)
           ∙ up_append b (size t) (sizes ts)
 

@@ -8,7 +8,7 @@ use Rattle.tree.specs.Trees.Tree.{node}
 use Rattle.tree.specs.Trees.Trees.{none, more}
 use Rattle.tree.specs.Layout.{first_of, lay_tree, lay_trees}
 use Rattle.tree.specs.Memory.{overlay, set_next}
-use Rattle.tree.proofs.Stores.{overlay-++, setNext-last}
+use Rattle.tree.proofs.Stores.{overlay-++, set_next_last}
 
 mutual
   pub length_tree : (t : Tree) (b c n : ℕ) → length (lay_tree t b c n) ≡ size t
@@ -26,11 +26,11 @@ pub size_pos : (t : Tree) → 0 < size t
 size_pos (node l ts) = omega arith
 
 -- a root behind its children
-pub lay-node :
+pub lay_node :
     (m : List Slot) (b c : ℕ) (l : Label) (ts : Trees) →
     set (overlay m b (lay_trees ts b (c + length (own_text l.name)))) (b + sizes ts) (slot_of l c (first_of b ts) 0)
     ≡ overlay m b (lay_tree (node l ts) b c 0)
-lay-node m b c l ts =
+lay_node m b c l ts =
     let x : Slot = slot_of l c (first_of b ts) 0 in
     let k : ℕ = c + length (own_text l.name) in
     ap (λ i. set (overlay m b (lay_trees ts b k)) (b + i) x) (sym (length_trees ts b k))
@@ -44,7 +44,7 @@ relink m b c n (node l us) =
     let x : Slot = slot_of l c (first_of b us) 0 in
     let k : ℕ = c + length (own_text l.name) in
     let i : (b + (sizes us + 1)) - 1 ≡ b + length (lay_trees us b k) = omega (arith, length_trees us b k) in
-    ap (λ j. set_next (overlay m b (lay_trees us b k ++ (x ∷ []))) j n) i ∙ setNext-last m b n (lay_trees us b k) x
+    ap (λ j. set_next (overlay m b (lay_trees us b k ++ (x ∷ []))) j n) i ∙ set_next_last m b n (lay_trees us b k) x
 
 -- a tree, and the trees behind it
 lay_more :
@@ -78,13 +78,13 @@ lay_behind m b c i k (more t none) u e f h =
     let d : ℕ = c + length (text_of t) in
     let n : ℕ = j + size u in
     let at_i : j ≡ i = omega (arith, e) in
-    let at-k : d ≡ k = omega (arith, f, ap length (append-nil (text_of t))) in
+    let at_k : d ≡ k = omega (arith, f, ap length (append-nil (text_of t))) in
     lay_more m b c t (more u none)
     ∙ ap (λ xs. overlay (overlay m b (lay_tree t b c n)) j xs) (append-nil (lay_tree u j d 0))
     ∙ ap (λ y. overlay y j (lay_tree u j d 0)) (sym (relink m b c n t))
     ∙ ap (λ xs. overlay (set_next (overlay m b xs) (j - 1) n) j (lay_tree u j d 0)) (sym (append-nil (lay_tree t b c 0)))
     ∙ ap (λ p. overlay (set_next (overlay m b (lay_trees (more t none) b c)) (p - 1) (p + size u)) p (lay_tree u p d 0)) at_i
-    ∙ ap (λ q. overlay (set_next (overlay m b (lay_trees (more t none) b c)) (i - 1) (i + size u)) i (lay_tree u i q 0)) at-k
+    ∙ ap (λ q. overlay (set_next (overlay m b (lay_trees (more t none) b c)) (i - 1) (i + size u)) i (lay_tree u i q 0)) at_k
 lay_behind m b c i k (more t (more t₂ ts)) u e f h =
     let j : ℕ = b + size t in
     let d : ℕ = c + length (text_of t) in

@@ -10,7 +10,7 @@ use Rattle.tree.specs.Layout.{lay_tree, lay_trees, layout}
 use Rattle.tree.specs.Memory.{overlay, fit, blanked_from, Memory, counted, linked, with_first, placed, pushed, texted, tidied, adopted_root, adopted_slots, adopted, root_of, below_laid, laid, Pending}
 use Rattle.tree.specs.Laws.{Lays, Grows, Writes, Done, Completes}
 use Rattle.tree.proofs.Stores.{overlay-++, set_next_before, linked_at}
-use Rattle.tree.proofs.Layouts.{length_tree, lay-node, lay_behind, sizes_behind, texts_behind, size_pos}
+use Rattle.tree.proofs.Layouts.{length_tree, lay_node, lay_behind, sizes_behind, texts_behind, size_pos}
 use Rattle.tree.proofs.Fits.{blanked_fit, fit_within}
 use Rattle.tree.proofs.Within.{Within}
 use Rattle.tree.proofs.Held.{last_of, tree_held, tree_reached}
@@ -32,7 +32,7 @@ lays root m (node l ts) m₀ p h =
     same_memory (placed root m) (laid (node l ts) m₀)
     (ap (λ (n : Memory). set n.slots n.used root) p.memory
     ∙ ap (λ s. set (overlay m₀.slots b (lay_trees ts b (c + length (own_text l.name)))) (b + sizes ts) s) p.root
-    ∙ lay-node m₀.slots b c l ts)
+    ∙ lay_node m₀.slots b c l ts)
     (counts m.used h ∙ omega (arith, ap (λ (n : Memory). n.used) p.memory))
     (ap (λ (n : Memory). n.text) p.memory)
     (ap (λ (n : Memory). n.written) p.memory)
@@ -98,10 +98,10 @@ module _ (l : Label) (u : Tree) (m : Memory) where
       let test : eqb (m.used + size t) 0 ≡ false = ne_eqb (m.used + size t) 0 (λ z. omega arith) in
       ap (λ q. cond q (with_first s n) s) test
 
-  memory-grown :
+  memory_grown :
       (ts : Trees) (last : ℕ) → (0 < sizes ts → last ≡ m.used + sizes ts) →
       fostered (root_of (node l ts) m) last (laid u (below_laid (node l ts) m)) ≡ below_laid (node l (behind ts u)) m
-  memory-grown ts last e =
+  memory_grown ts last e =
       let ys : List ℕ = text_of (node l ts) in
       same_memory (fostered (root_of (node l ts) m) last (laid u (below_laid (node l ts) m)))
       (below_laid (node l (behind ts u)) m)
@@ -119,13 +119,13 @@ grows parent last root m (node l ts) u m₀ m₁ p e q h =
     let s : Slot = root_of (node l ts) m₀ in
     let P : Memory → Type 0 = λ x. Pending u x root m in
     let lain = lays root m u m₂ (subst P p.memory q) h in
-    let last-is : 0 < sizes ts → last ≡ m₀.used + sizes ts = λ z. e z ∙ ap (λ (n : Memory). n.used) p.memory in
+    let last_is : 0 < sizes ts → last ≡ m₀.used + sizes ts = λ z. e z ∙ ap (λ (n : Memory). n.used) p.memory in
     record {
       root =
           ap (λ x. adopted_root x (counted m.used)) p.root ∙ ap (λ (n : Memory). adopted_root s n.used) lain
           ∙ root_grown l u m₀ ts;
       memory =
-          ap (λ x. adopted x last root m) p.root ∙ ap (λ n. fostered s last n) lain ∙ memory-grown l u m₀ ts last last-is;
+          ap (λ x. adopted x last root m) p.root ∙ ap (λ n. fostered s last n) lain ∙ memory_grown l u m₀ ts last last_is;
     }
 
 -- a tree that was laid out from the start
@@ -159,9 +159,9 @@ completes m t m₀ u w e =
     }
 
 -- a node with nothing below it and no text of its own
-pub leaf-pending :
+pub leaf_pending :
     (l : Label) (m : Memory) → own_text l.name ≡ [] → Pending (node l none) m (slot_of l m.written 0 0) m
-leaf-pending l m e =
+leaf_pending l m e =
     let no_text : text_of (node l none) ≡ [] = append-nil (own_text l.name) ∙ e in
     record {
       root = refl;
@@ -172,9 +172,9 @@ leaf-pending l m e =
     }
 
 -- a node with nothing below it whose own text was written
-pub text-pending :
+pub text_pending :
     (l : Label) (m : Memory) → Pending (node l none) m (slot_of l m.written 0 0) (texted (own_text l.name) m)
-text-pending l m =
+text_pending l m =
     let own : List ℕ = own_text l.name in
     record {
       root = refl;
@@ -188,10 +188,10 @@ text-pending l m =
 pub texted_none : (m : Memory) → texted [] m ≡ m
 texted_none m = same_memory (texted [] m) m refl refl refl (omega arith)
 
-pub texted-more :
+pub texted_more :
     (bytes : List ℕ) (byte : ℕ) (m : Memory) → (m.written + length bytes) + 1 < 2 ^ 64 →
     pushed byte (texted bytes m) ≡ texted (bytes ++ (byte ∷ [])) m
-texted-more bytes byte m h =
+texted_more bytes byte m h =
     same_memory (pushed byte (texted bytes m)) (texted (bytes ++ (byte ∷ [])) m) refl refl
     (sym (overlay-++ m.text m.written bytes (byte ∷ [])))
     (counts (m.written + length bytes) h ∙ omega (arith, length-append bytes (byte ∷ [])))
@@ -215,9 +215,9 @@ relabelled l k ts m m' s s' e f p =
     }
 
 -- the same of a call that leaves such memory
-pub lays-from :
+pub lays_from :
     (root : Slot) (m m' : Memory) → m' ≡ placed root m → Lays root m m'
-lays-from root m m' e t m₀ p h = e ∙ lays root m t m₀ p h
+lays_from root m m' e t m₀ p h = e ∙ lays root m t m₀ p h
 
 pub grows_from :
     (parent : Slot) (last : ℕ) (root : Slot) (m : Memory) (root' : Slot) (m' : Memory) →
@@ -234,12 +234,12 @@ completes_from m m' e t m₀ u w f =
 pub writes_from : (byte : ℕ) (m m' : Memory) → m' ≡ pushed byte m → Writes byte m m'
 writes_from byte m m' e bytes m₀ f h =
     let at : m.written ≡ m₀.written + length bytes = ap (λ (x : Memory). x.written) f in
-    e ∙ ap (λ x. pushed byte x) f ∙ texted-more bytes byte m₀ (omega (arith, at, h))
+    e ∙ ap (λ x. pushed byte x) f ∙ texted_more bytes byte m₀ (omega (arith, at, h))
 
-pub leaf-at :
+pub leaf_pending_at :
     (l : Label) (m : Memory) (s : Slot) → own_text l.name ≡ [] → s ≡ slot_of l m.written 0 0 → Pending (node l none) m s m
-leaf-at l m s e f =
-    let p = leaf-pending l m e in
+leaf_pending_at l m s e f =
+    let p = leaf_pending l m e in
     record { root = f ∙ p.root; memory = p.memory }
 
 -- a new node above a root: the law of a further child, of a parent that has none yet
@@ -248,4 +248,4 @@ pub raised :
     parent ≡ slot_of l m₀.written 0 0 → Pending t m₀ s m → m.used + 1 < 2 ^ 64 → Grows parent last s m s' m' →
     Pending (node l (more t none)) m₀ s' m'
 raised l t parent last m₀ m m' s s' e f p h law =
-    law (node l none) t m₀ m₀ (leaf-at l m₀ parent e f) (λ z. absurd (omega arith)) p h
+    law (node l none) t m₀ m₀ (leaf_pending_at l m₀ parent e f) (λ z. absurd (omega arith)) p h

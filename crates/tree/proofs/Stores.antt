@@ -57,10 +57,10 @@ set_next_before m i b n (x ∷ xs) h =
     set_next_before (set m b x) i (b + 1) n xs (omega arith) ∙ ap (λ t. overlay t (b + 1) xs) (set_next_other m i b n x h)
 
 -- the sibling of the last slot that is written
-pub setNext-last :
+pub set_next_last :
     (m : List Slot) (b n : ℕ) (xs : List Slot) (x : Slot) →
     set_next (overlay m b (xs ++ (x ∷ []))) (b + length xs) n ≡ overlay m b (xs ++ (with_next x n ∷ []))
-setNext-last m b n xs x =
+set_next_last m b n xs x =
     ap (λ t. set_next t (b + length xs) n) (overlay-++ m b xs (x ∷ []))
     ∙ set_next_set (overlay m b xs) (b + length xs) n x
     ∙ sym (overlay-++ m b xs (with_next x n ∷ []))

@@ -26,12 +26,12 @@ bit_double true n = refl
 bit_double false n = refl
 
 -- flags as binary digits
-flag-digits :
+flag_digits :
     (f : Flags) (a : Bool) →
     flag_number f a
     ≡ digit f.unsigned
     (digit f.case_insensitive (digit f.dot_matches_new_line (digit f.wildcard (digit f.object (digit a 0)))))
-flag-digits f a =
+flag_digits f a =
     omega (
       arith,
       bit_double f.case_insensitive 1,
@@ -54,7 +54,7 @@ flag-digits f a =
 -- the flags that a number stands for
 flags_same : (f g : Flags) (a b : Bool) → flag_number f a ≡ flag_number g b → (f ≡ g) × (a ≡ b)
 flags_same f g a b e =
-    let u = digit_same f.unsigned g.unsigned _ _ (sym (flag-digits f a) ∙ e ∙ flag-digits g b) in
+    let u = digit_same f.unsigned g.unsigned _ _ (sym (flag_digits f a) ∙ e ∙ flag_digits g b) in
     let i = digit_same f.case_insensitive g.case_insensitive _ _ u.1 in
     let s = digit_same f.dot_matches_new_line g.dot_matches_new_line _ _ i.1 in
     let w = digit_same f.wildcard g.wildcard _ _ s.1 in

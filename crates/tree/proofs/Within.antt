@@ -45,15 +45,15 @@ within_at xs b x ys w =
 pub within_cut : (xs : List ℕ) (b : ℕ) (ys : List ℕ) → Within xs b ys → cut xs (span_of b (b + length ys)) ≡ Some ys
 within_cut xs b ys w =
     let long = ap length w.is ∙ length-append w.before (ys ++ w.after) in
-    let in-front : leb b (b + length ys) ≡ true = le-leb b (b + length ys) (omega arith) in
-    let in-back : leb (b + length ys) (length xs) ≡ true =
+    let in_front : leb b (b + length ys) ≡ true = le-leb b (b + length ys) (omega arith) in
+    let in_back : leb (b + length ys) (length xs) ≡ true =
     le-leb (b + length ys) (length xs) (omega (arith, long, length-append ys w.after, w.far)) in
     let part : take ((b + length ys) - b) (drop b xs) ≡ ys =
     ap (λ l. take ((b + length ys) - b) (drop b l)) w.is
     ∙ ap (λ l. take ((b + length ys) - b) l) (drop_at w.before (ys ++ w.after) b w.far)
     ∙ take_at ys w.after ((b + length ys) - b) (omega arith) in
-    ap (λ t. cond (t && leb (b + length ys) (length xs)) (Some (take ((b + length ys) - b) (drop b xs))) None) in-front
-    ∙ ap (λ t. cond t (Some (take ((b + length ys) - b) (drop b xs))) None) in-back
+    ap (λ t. cond (t && leb (b + length ys) (length xs)) (Some (take ((b + length ys) - b) (drop b xs))) None) in_front
+    ∙ ap (λ t. cond t (Some (take ((b + length ys) - b) (drop b xs))) None) in_back
     ∙ ap Some part
 
 -- a list within itself

@@ -1,4 +1,6 @@
 // Trees of YARA conditions in lent memory.
+#![tactic(auto)]
+
 mod laws;
 mod node;
 mod place;

@@ -1,7 +1,5 @@
 ghost use Rattle.std.specs.Prelude.{◌≡◌, Some};
-ghost use Rattle.tree.specs.Kinds.{number_of, kind_of, name_of, same};
-ghost use Rattle.std.specs.Cmp.Rules.{comparing};
-ghost use Rattle.std.proofs.Common.{rules};
+ghost use Rattle.tree.specs.Kinds.{number_of, kind_of, name_of, same, same_laws};
 
 // What a node is: the blank first, then the original's kinds of expression in its order, then their parts.
 #[derive(Clone, Copy)]
@@ -157,10 +155,10 @@ impl NodeKind {
     }
 }
 
-impl PartialEq<NodeKind> for NodeKind {
-    ghost equals = { λ a b r. r ≡ same a b };
+impl PartialEq for NodeKind {
+    ghost eq = { λ a b. same a b };
 
-    ghost laws = { Prim.search (comparing, rules) };
+    ghost laws = { same_laws };
 
     fn eq(&self, other: &NodeKind) -> bool {
         self.number() == other.number()

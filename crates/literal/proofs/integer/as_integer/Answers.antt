@@ -1,4 +1,4 @@
-use Rattle.std.proofs.Common.{◌≡◌, ℕ, ◌^◌, true, false, length, sym, ap, ◌∙◌, arith, w64, to_z, of_z, rules}
+use Rattle.std.proofs.Common.{◌≡◌, ◌^◌, true, false, length, ap, ◌∙◌, w64, to_z, of_z, rules}
 use borrow.Author.Tests.{lt-false, le-true}
 use Rattle.literal.specs.Integers.{integer_number}
 use Rattle.literal.specs.Texts.{place_in}
@@ -10,16 +10,16 @@ returns-in-Some c =
     let t = c.args.literal.now in
     let h = signed_here (integer_number t) c.in-Some.value c.in-Some.ensures in
     let z : to_z w64 (of_z w64 c.in-Some.value) ≡ c.in-Some.value = search rules in
-    made t c.args.span c.place-in-name.result h.0 _ c.in-Some.value false h.1 z (low_pattern h.0 c.in-Some.value h.3 h.2) (lt-false (2 ^ 63) h.0 h.3)
-    (c.place-in-name.ensures ∙ ap (λ b. place_in c.args.span 0 (length b)) c.strip-size-suffix.ensures.value.0)
+    made t c.args.span c.place_in-name.result h.0 _ c.in-Some.value false h.1 z (low_pattern h.0 c.in-Some.value h.3 h.2) (lt-false (2 ^ 63) h.0 h.3)
+    (c.place_in-name.ensures ∙ ap (λ b. place_in c.args.span 0 (length b)) c.strip_size_suffix.ensures.value.0)
 
-pub returns-in-Some-parse-integer : goal.returns-in-Some-parse-integer
-returns-in-Some-parse-integer c =
+pub returns-in-Some-parse_integer : goal.returns-in-Some-parse_integer
+returns-in-Some-parse_integer c =
     let t = c.args.literal.now in
-    let h = unsigned_here (integer_number t) c.in-Some-parse-integer.bits c.in-default.ensures c.in-Some-parse-integer.ensures in
+    let h = unsigned_here (integer_number t) c.in-Some-parse_integer.bits c.in_default.ensures c.in-Some-parse_integer.ensures in
     let z : to_z w64 (of_z w64 c.pattern.result) ≡ c.pattern.result = search rules in
-    made t c.args.span c.place-in-name.result c.in-Some-parse-integer.bits _ c.pattern.result true h.0 z c.pattern.ensures (le-true (2 ^ 63) c.in-Some-parse-integer.bits h.1)
-    (c.place-in-name.ensures ∙ ap (λ b. place_in c.args.span 0 (length b)) c.strip-size-suffix.ensures.value.0)
+    made t c.args.span c.place_in-name.result c.in-Some-parse_integer.bits _ c.pattern.result true h.0 z c.pattern.ensures (le-true (2 ^ 63) c.in-Some-parse_integer.bits h.1)
+    (c.place_in-name.ensures ∙ ap (λ b. place_in c.args.span 0 (length b)) c.strip_size_suffix.ensures.value.0)
 
 pub returns-in-None : goal.returns-in-None
 returns-in-None c = too_large c.args.literal.now c.args.span c.in-None.ensures

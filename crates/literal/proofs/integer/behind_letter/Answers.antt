@@ -1,4 +1,4 @@
-use Rattle.std.proofs.Common.{◌≡◌, ℕ, ◌+◌, ◌-◌, cond, length, take, drop, Some, None, sym, ap, ◌∙◌, arith, length-drop, eq-eqb, ne_eqb}
+use Rattle.std.proofs.Common.{◌+◌, ◌-◌, cond, length, drop, Some, None, sym, ap, ◌∙◌, arith, length-drop, eq-eqb, ne_eqb}
 use Rattle.std.proofs.lemmas.List.{take_all}
 use Rattle.literal.specs.Digits.{without}
 use Rattle.literal.specs.Numerals.{next}

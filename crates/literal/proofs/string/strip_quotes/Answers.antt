@@ -1,4 +1,4 @@
-use Rattle.std.proofs.Common.{◌≡◌, ℕ, ◌+◌, ◌-◌, ◌<◌, ◌≤◌, List, length, get_or, IsUtf8, sym, ap, ◌∙◌, subst, arith, rules}
+use Rattle.std.proofs.Common.{◌≡◌, ℕ, ◌+◌, ◌-◌, ◌<◌, ◌≤◌, List, length, get_or, IsUtf8, subst, arith, rules}
 use Rattle.std.specs.Str.{IsCharBoundary}
 use Rattle.std.proofs.lemmas.Str.{IsCharBoundary-after_ascii, IsCharBoundary-before_ascii}
 use Rattle.literal.proofs.string.strip_quotes.Goals as goal
@@ -12,24 +12,24 @@ before bytes literal i e h q = subst (λ l. IsCharBoundary l i) e (IsCharBoundar
 
 pub range-requires : goal.range-requires
 range-requires c =
-    let bytes = c.as-bytes-bytes.result.now in
+    let bytes = c.as_bytes-bytes.result.now in
     let h : 6 ≤ length bytes = search rules in
     let a : get_or bytes 2 0 ≡ 34 = search rules in
     let z : get_or bytes (length bytes - 3) 0 ≡ 34 = search rules in
     record {
-      start-le-end = omega arith;
-      start-boundary = λ _. behind bytes _ 2 c.as-bytes-bytes.ensures.value c.as-bytes-bytes.ensures.utf8 (omega arith) a;
-      end-boundary = before bytes _ (length bytes - 3) c.as-bytes-bytes.ensures.value (omega arith) z;
+      start_le_end = omega arith;
+      start_boundary = λ _. behind bytes _ 2 c.as_bytes-bytes.ensures.value c.as_bytes-bytes.ensures.utf8 (omega arith) a;
+      end_boundary = before bytes _ (length bytes - 3) c.as_bytes-bytes.ensures.value (omega arith) z;
     }
 
 pub range-requires-in-34-3 : goal.range-requires-in-34-3
 range-requires-in-34-3 c =
-    let bytes = c.as-bytes-bytes.result.now in
+    let bytes = c.as_bytes-bytes.result.now in
     let h : 2 ≤ length bytes = search rules in
     let a : get_or bytes 0 0 ≡ 34 = search rules in
     let z : get_or bytes (length bytes - 1) 0 ≡ 34 = search rules in
     record {
-      start-le-end = omega arith;
-      start-boundary = λ _. behind bytes _ 0 c.as-bytes-bytes.ensures.value c.as-bytes-bytes.ensures.utf8 (omega arith) a;
-      end-boundary = before bytes _ (length bytes - 1) c.as-bytes-bytes.ensures.value (omega arith) z;
+      start_le_end = omega arith;
+      start_boundary = λ _. behind bytes _ 0 c.as_bytes-bytes.ensures.value c.as_bytes-bytes.ensures.utf8 (omega arith) a;
+      end_boundary = before bytes _ (length bytes - 1) c.as_bytes-bytes.ensures.value (omega arith) z;
     }

@@ -1,7 +1,7 @@
 use Rattle.std.proofs.Common.{ℕ, ◌+◌, ◌-◌, ◌<◌, ◌≤◌, List, ◌++◌, string_bytes, sym, ap, ◌∙◌, ⊎_elim, arith}
 use Rattle.tree.specs.declared.slot.Slot.{Slot}
 use Rattle.outline.specs.Shown.{node_text, broken_text, below_text, between_text, enter_text, leave_text, trees_text}
-use Rattle.outline.proofs.Adding.{then_adds, same_adds, last_adds, three-then}
+use Rattle.outline.proofs.Adding.{then_adds, same_adds, last_adds, three_then}
 use Rattle.outline.proofs.Printed.{followed, broken, below_some}
 use Rattle.outline.proofs.print.+put_below_put_trees.Goals as goal
 
@@ -48,7 +48,7 @@ put-trees-loop-link-preserved t c =
     let s : Slot = c.follow-slot.result in
     let out : List ℕ = string_bytes c.loop-link.out in (
       omega arith,
-      three-then out (string_bytes c.put-node.new.out) (string_bytes c.put-below.new.out)
+      three_then out (string_bytes c.put-node.new.out) (string_bytes c.put-below.new.out)
           (string_bytes c.put-between.new.out)
           (node_text v d s)
           (below_text v d low (link - 1) s.first)

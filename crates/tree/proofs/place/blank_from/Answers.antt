@@ -1,7 +1,7 @@
 use Rattle.std.proofs.Common.{◌≡◌, ℕ, ◌+◌, ◌-◌, ◌≤◌, length, set, replicate, refl, ap, ◌∙◌, arith}
 use native.Mathlib.Decide.{dec_le}
 use Rattle.tree.specs.Memory.{overlay}
-use Rattle.tree.proofs.Fits.{blank-more, blank_all}
+use Rattle.tree.proofs.Fits.{blank_more, blank_all}
 use Rattle.tree.proofs.place.blank_from.Goals as goal
 
 -- where a counter from f up to n ends
@@ -18,7 +18,7 @@ pub loop-at-preserved : goal.loop-at-preserved
 loop-at-preserved g c =
     let more : (c.loop-at.at - c.args.from) + 1 ≡ (c.loop-at.at + 1) - c.args.from = omega arith in (
       ap (λ xs. set xs c.loop-at.at c.args.blank) c.loop-at.invariant.0
-          ∙ blank-more c.args.blank c.args.row.now c.args.from (c.loop-at.at - c.args.from) c.loop-at.at
+          ∙ blank_more c.args.blank c.args.row.now c.args.from (c.loop-at.at - c.args.from) c.loop-at.at
           (omega arith)
           ∙ ap (λ k. overlay c.args.row.now c.args.from (replicate k c.args.blank)) more,
       λ h. absurd (omega arith),

@@ -9,4 +9,4 @@ returns-then-number-slots c =
 
 pub returns : goal.returns
 returns c =
-    c.slot-float.ensures ∙ ap float_at (at_below c.args.slots.now c.args.number _ c.if-number-slots.false)
+    c.slot_float.ensures ∙ ap float_at (at_below c.args.slots.now c.args.number _ c.if-number-slots.false)

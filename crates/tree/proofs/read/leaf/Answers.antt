@@ -14,7 +14,7 @@ returns-then-number-slots c =
 pub returns : goal.returns
 returns c =
     let e =
-    c.slot-leaf.ensures
+    c.slot_leaf.ensures
     ∙ ap (λ o. leaf_at o c.args.source.now c.args.text.now)
     (at_below c.args.slots.now c.args.number _ c.if-number-slots.false) in
     record {

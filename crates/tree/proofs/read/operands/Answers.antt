@@ -1,5 +1,5 @@
 use Rattle.std.proofs.Common.{◌-◌, length, sym, ap, ◌∙◌, ⊎_elim, arith}
-use Rattle.tree.proofs.Counts.{plus, full_at, off_at, none_at, loop-start, loop-step, loop_end, meets}
+use Rattle.tree.proofs.Counts.{plus, full_at, off_at, none_at, loop_start, loop_step, loop_end, meets}
 use Rattle.tree.proofs.Telling.{counts_from}
 use Rattle.tree.proofs.read.operands.Goals as goal
 
@@ -9,7 +9,7 @@ returns-then-number-slots c =
     record { value = e; counts = counts_from _ _ _ e; cases = meets _ _ _ e }
 
 pub loop-link-init : goal.loop-link-init
-loop-link-init c = (omega arith, loop-start _ _ _ c.if-number-slots.false)
+loop-link-init c = (omega arith, loop_start _ _ _ c.if-number-slots.false)
 
 pub returns-then-count-slots : goal.returns-then-count-slots
 returns-then-count-slots c =
@@ -29,7 +29,7 @@ pub loop-link-preserved : goal.loop-link-preserved
 loop-link-preserved c = (
   omega arith,
   c.loop-link.invariant.1
-      ∙ loop-step _ _ _ _ c.loop-link.invariant.0 c.if-count-slots.false c.loop-link-test.true c.if-link-slots.false,
+      ∙ loop_step _ _ _ _ c.loop-link.invariant.0 c.if-count-slots.false c.loop-link-test.true c.if-link-slots.false,
 )
 
 pub returns : goal.returns

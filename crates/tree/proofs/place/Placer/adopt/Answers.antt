@@ -44,13 +44,13 @@ returns-else-parent-eq0 c =
     let n : ℕ = counted m.used in
     let slots : List Slot = set m.slots m.used p.root in
     let place = c.place-child.ensures in
-    let placed-in = c.place-child.new.self in
+    let placed_in = c.place-child.new.self in
     let m' : Memory =
     record {
       slots = c.link.new.slots;
-      used = placed-in.used;
-      text = placed-in.text.now;
-      written = placed-in.written;
+      used = placed_in.used;
+      text = placed_in.text.now;
+      written = placed_in.written;
     } in
     let test : eqb parent.first 0 ≡ false = ne_eqb parent.first 0 c.if-parent-eq0.false in
     let root : parent ≡ adopted_root parent n = sym (ap (λ q. cond q (with_first parent n) parent) test) in

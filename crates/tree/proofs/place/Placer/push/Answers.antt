@@ -11,10 +11,10 @@ returns c =
       slots = m.slots;
       used = m.used;
       text = c.keep.new.row;
-      written = c.saturating-add-self.result;
+      written = c.saturating_add-self.result;
     } in
     let e : m' ≡ pushed c.args.byte m =
-    same_memory m' (pushed c.args.byte m) refl refl c.keep.ensures c.saturating-add-self.ensures in
+    same_memory m' (pushed c.args.byte m) refl refl c.keep.ensures c.saturating_add-self.ensures in
     record {
       after = record { lent = record { slots = refl; text = refl }; memory = e; root = refl };
       writes = writes_from c.args.byte m m' e;

@@ -9,16 +9,16 @@ returns c =
     let m : Memory = memory_of p in
     let m' : Memory =
     record {
-      slots = c.blank-from.new.row;
+      slots = c.blank_from.new.row;
       used = m.used;
-      text = c.blank-from-2.new.row;
+      text = c.blank_from-2.new.row;
       written = m.written;
     } in
     let e : m' ≡ tidied m =
     same_memory m' (tidied m)
-    (c.blank-from.ensures ∙ ap (λ s. blanked_from s m.used m.slots) c.blank.ensures)
+    (c.blank_from.ensures ∙ ap (λ s. blanked_from s m.used m.slots) c.blank.ensures)
     refl
-    c.blank-from-2.ensures
+    c.blank_from-2.ensures
     refl in
     record {
       after = record { lent = record { slots = refl; text = refl }; memory = e; root = refl };
