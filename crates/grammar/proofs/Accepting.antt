@@ -1,5 +1,5 @@
 -- Acceptance in the grammar's words, and what the slots hold.
-use Rattle.std.proofs.Common.{◌≡◌, ℕ, ◌+◌, ◌-◌, ◌<◌, ◌≤◌, Bool, true, false, ◌&&◌, leb, ◌⊎◌, List, length, None, sym, refl, ap, ◌∙◌, subst, inl, inr, arith, leb-true}
+use Rattle.std.proofs.Common.{◌≡◌, ℕ, ◌-◌, ◌<◌, ◌≤◌, Bool, true, false, leb, ◌⊎◌, List, length, None, sym, refl, ap, ◌∙◌, subst, inl, inr, arith, leb-true}
 use Rattle.std.proofs.lemmas.Bool.Decides.{leb_tells}
 use Rattle.syntax.specs.declared.event.Event.{Event}
 use Rattle.source.specs.declared.close.Close.{Close}
@@ -8,7 +8,6 @@ use Rattle.refusal.specs.declared.refusal.Refusal.{Refusal}
 use Rattle.kinds.proofs.Inverse.{and_both}
 use Rattle.tree.specs.Labels.{blank_slot}
 use Rattle.tree.specs.Layout.{layout}
-use Rattle.tree.specs.Memory.{fit}
 use Rattle.tree.specs.Trees.{Tree, size, text_of}
 use Rattle.tree.specs.declared.slot.Slot.{Slot}
 use Rattle.tree.proofs.Fits.{fit_within}
@@ -16,13 +15,12 @@ use Rattle.tree.proofs.Held.{tree_held, tree_reached, last_of}
 use Rattle.tree.proofs.Layouts.{length_tree}
 use Rattle.tree.proofs.Within as part
 use Rattle.grammar.specs.declared.entry.Entry.{Entry}
-use Rattle.grammar.specs.Words.{Word}
 use Rattle.grammar.specs.Built.{tree-BE}
 use Rattle.grammar.specs.Causes.{Cause}
 use Rattle.grammar.specs.Conditions.{Spelled}
 use Rattle.grammar.specs.Extents.{visible, Ending, closed, boundary, close, ending_of, is_closed, fault_at}
-use Rattle.grammar.specs.Answers.{Lent, Outcome, accepted, refused, NoCause, fits, Judged, caused, over, full, read, Comes, none_begins, in_fault, too_long, judged}
-use Rattle.grammar.specs.Acceptance.{word_of, Sound, Within, Exactly, AcceptedExactly, AcceptedHolds}
+use Rattle.grammar.specs.Answers.{Lent, Outcome, accepted, NoCause, fits, Judged, caused, over, full, read, Comes, none_begins, in_fault, too_long, judged}
+use Rattle.grammar.specs.Acceptance.{word_of, Sound, Within, AcceptedExactly, AcceptedHolds}
 use Rattle.grammar.proofs.Laws.{spelled_without_cause}
 
 closed_no_fault : (e : Ending) (c : Close) → is_closed e ≡ true → fault_at e c ≡ None

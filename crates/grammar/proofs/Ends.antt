@@ -1,14 +1,13 @@
 -- Where nodes end: how many Ends of a word have no Begin in it.
-use Rattle.std.proofs.Common.{◌≡◌, ℕ, suc, ◌+◌, ◌-◌, ◌<◌, ◌≤◌, ◌⊎◌, List, [], ◌∷◌, ◌++◌, length, sym, refl, ap, ◌∙◌, inl, inr, arith, length-append}
+use Rattle.std.proofs.Common.{◌≡◌, ℕ, ◌+◌, ◌-◌, ◌<◌, ◌≤◌, [], ◌∷◌, ◌++◌, length, sym, refl, ap, ◌∙◌, inl, inr, arith, length-append}
 use Rattle.std.proofs.lemmas.List.{append_assoc}
 use Rattle.std.proofs.lemmas.Bool.Decides.{leb_tells}
 use Rattle.kinds.specs.declared.kind.SyntaxKind.{SyntaxKind}
 use Rattle.kinds.specs.declared.kind.SyntaxKind.TheVariants.{MINUS, TERM, BOOLEAN_EXPR}
-use Rattle.syntax.specs.declared.event.Event.{Event}
 use Rattle.syntax.specs.declared.event.Event.TheVariants.{Error, Begin, End, Token}
 use Rattle.syntax.specs.declared.span.Span.{Span}
 use Rattle.grammar.specs.Words.{Word}
-use Rattle.grammar.specs.Grammar.{BE, T, spell-BE, spell-T, spell-InT}
+use Rattle.grammar.specs.Grammar.{BE, T, spell-BE, spell-T}
 use Rattle.grammar.specs.Grammar.BE.{boolean_expr}
 use Rattle.grammar.specs.Grammar.T.{term}
 use Rattle.grammar.specs.Nests.{Nests, done, one, node}

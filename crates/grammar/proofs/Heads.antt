@@ -1,4 +1,4 @@
-use Rattle.std.proofs.Common.{◌≡◌, ℕ, Bool, true, false, not, ◌||◌, T, eqb, List, ◌∷◌, is_some, refl, ap, ◌∙◌, arith, eq-eqb}
+use Rattle.std.proofs.Common.{◌≡◌, ℕ, Bool, true, false, not, ◌||◌, T, eqb, ◌∷◌, is_some, refl, ap, ◌∙◌, arith, eq-eqb}
 use mathlib.Core.Path.{path_j}
 use Rattle.operators.specs.Levels.{level_of}
 use Rattle.syntax.specs.declared.span.Span.{Span}

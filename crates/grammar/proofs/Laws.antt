@@ -9,8 +9,7 @@ use Rattle.grammar.specs.Tests.{is_damaged, is_misplaced}
 use Rattle.grammar.specs.Causes.{Why, damaged, bad_span, out_of_place, too_deep, token, minus}
 use Rattle.grammar.proofs.Least.{Least, least_token, least_minus}
 use Rattle.grammar.proofs.OneCause.{neither}
-use Rattle.grammar.specs.Grammar.{spell-BE}
-use Rattle.grammar.specs.Conditions.{Spelled, Begins}
+use Rattle.grammar.specs.Conditions.{Begins}
 use Rattle.grammar.specs.Laws.{FrontsBegin, ClosedIsWhole, NeverOutOfPlace, WithoutCauseSpelled, SpelledWithoutCause}
 use Rattle.grammar.proofs.Ends.{whole_front}
 use Rattle.grammar.proofs.Soundness.{Sound, sound-BE, sound_at}

@@ -1,5 +1,5 @@
 -- What a name, a literal or a minus sign is refused by has a number from 3 on.
-use Rattle.std.proofs.Common.{◌≡◌, ℕ, ◌+◌, ◌-◌, ◌^◌, ◌≤◌, Bool, true, false, cond, ◌&&◌, eqb, leb, List, length, drop, neg_ℤ, Some, None, Ok, Err, Option, Result, sym, refl, subst, lit≤}
+use Rattle.std.proofs.Common.{ℕ, ◌+◌, ◌-◌, ◌^◌, ◌≤◌, Bool, true, false, cond, ◌&&◌, eqb, leb, List, length, drop, neg_ℤ, Some, None, Ok, Err, Option, Result, lit≤}
 use lib.Ieee.{binary64, round}
 use Rattle.std.specs.Option.{ok_or, option_map}
 use Rattle.std.specs.Str.{chars}
@@ -12,7 +12,7 @@ use Rattle.refusal.specs.declared.refusal.Refusal.TheVariants.{InvalidUTF8, Inva
 use Rattle.literal.specs.Digits.{without, up_to as at_most}
 use Rattle.literal.specs.Escapes.{reading}
 use Rattle.literal.specs.Floats.{float_of, as_float, decimal_of, rounded}
-use Rattle.literal.specs.Integers.{integer_of, as_integer, integer_number, literal, before, negated, is_least, is_positive}
+use Rattle.literal.specs.Integers.{integer_of, as_integer, integer_number, literal, before, is_least, is_positive}
 use Rattle.literal.specs.Regexps.{regexp_of, as_regexp, regexp_with, closing, has, no_modifier, modifiers_of}
 use Rattle.literal.specs.Strings.{string_of, as_string, value_of, inner, escape_refusal}
 use Rattle.literal.specs.Texts.{part_of, place_in, text_of, and_then, or_else}

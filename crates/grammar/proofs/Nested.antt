@@ -1,6 +1,6 @@
 -- Each way to write a symbol nests.
 use Rattle.grammar.specs.Words.{Word}
-use Rattle.grammar.specs.Grammar.{BE, Bs, B, InB, OptA, Es, E, Ts, T, InT, OptR, OptX, Ps, P, InP, C, Args, BEs, R, Q, InQ, S, I, OptStar, Is, L, InL, CEs, F, InF, Vs, G, O, Items, W, Ds, D, spell-BE, spell-Bs, spell-B, spell-InB, spell-OptA, spell-Es, spell-E, spell-Ts, spell-T, spell-InT, spell-OptR, spell-OptX, spell-Ps, spell-P, spell-InP, spell-C, spell-Args, spell-BEs, spell-R, spell-Q, spell-InQ, spell-S, spell-I, spell-OptStar, spell-Is, spell_L, spell-InL, spell-CEs, spell-F, spell-InF, spell-Vs, spell-G, spell-O, spell-Items, spell-W, spell-Ds, spell-D}
+use Rattle.grammar.specs.Grammar.{BE, Bs, B, InB, OptA, Es, E, Ts, T, InT, OptR, OptX, Ps, P, InP, C, Args, BEs, R, Q, InQ, S, I, OptStar, Is, L, InL, CEs, F, InF, Vs, G, O, Items, W, Ds, D, spell-BE, spell-Bs, spell-B, spell-InB, spell-OptA, spell-Es, spell-E, spell-Ts, spell-T, spell-InT, spell-OptR, spell-OptX, spell-Ps, spell-P, spell-InP, spell-C, spell-Args, spell-BEs, spell-R, spell-Q, spell-InQ, spell-S, spell-I, spell-OptStar, spell-Is, spell-L, spell-InL, spell-CEs, spell-F, spell-InF, spell-Vs, spell-G, spell-O, spell-Items, spell-W, spell-Ds, spell-D}
 use Rattle.grammar.specs.Grammar.BE.{boolean_expr}
 use Rattle.grammar.specs.Grammar.Bs.{no-B, op-B}
 use Rattle.grammar.specs.Grammar.B.{boolean_term}
@@ -162,7 +162,7 @@ mutual
   nests-Is no-I k = done
   nests-Is (comma-I s0 x1 x2) k = one (joined (nests-I x1 _) (nests-Is x2 _))
 
-  pub nests-L : (x : L) (k : Word) → Nests (spell_L x k) k
+  pub nests-L : (x : L) (k : Word) → Nests (spell-L x k) k
   nests-L (iterable s0 x1 s1) k = node (nests-InL x1 _) done
 
   pub nests-InL : (x : InL) (k : Word) → Nests (spell-InL x k) k

@@ -1,8 +1,7 @@
 -- A condition has at most one answer.
-use Rattle.std.proofs.Common.{◌≡◌, ℕ, Bool, true, false, List, [], ◌∷◌, length, Some, None, Option, sym, refl, ap, ◌∙◌, arith}
+use Rattle.std.proofs.Common.{◌≡◌, ℕ, Bool, List, [], length, sym, refl, ap, ◌∙◌}
 use Rattle.syntax.specs.declared.event.Event.{Event}
 use Rattle.source.specs.declared.close.Close.{Close}
-use Rattle.source.specs.declared.close.Fault.{Fault}
 use Rattle.refusal.specs.declared.refusal.Refusal.TheVariants.{SourceFault, Full}
 use Rattle.tree.specs.Labels.{blank_slot}
 use Rattle.tree.specs.Memory.{fit}
@@ -12,7 +11,7 @@ use Rattle.grammar.specs.Words.{Word}
 use Rattle.grammar.specs.Grammar.{BE}
 use Rattle.grammar.specs.Built.{tree-BE}
 use Rattle.grammar.specs.Conditions.{Spelled}
-use Rattle.grammar.specs.Answers.{Lent, Outcome, accepted, refused, Judged, caused, over, full, read, Comes, none_begins, in_fault, too_long, judged, Answer, OneAnswer, entries_with, fits, slots_of, text_in, no_entry}
+use Rattle.grammar.specs.Answers.{Lent, Outcome, accepted, refused, Judged, caused, over, full, read, Comes, none_begins, in_fault, too_long, judged, OneAnswer, entries_with, fits, slots_of, text_in, no_entry}
 use Rattle.grammar.proofs.Heads.{ap2}
 use Rattle.grammar.proofs.OneCause.{neither, some_none, some_same, first_same}
 use Rattle.grammar.proofs.Unique.{same-BE}

@@ -1,8 +1,8 @@
 -- No event of a condition is damaged.
-use Rattle.std.proofs.Common.{◌≡◌, ℕ, false, [], ◌∷◌, ◌++◌, sym, refl, ap, ◌∙◌, subst}
+use Rattle.std.proofs.Common.{◌≡◌, false, [], ◌∷◌, ◌++◌, refl}
 use Rattle.syntax.specs.declared.event.Event.{Event}
 use Rattle.grammar.specs.Words.{Word}
-use Rattle.grammar.specs.Grammar.{BE, Bs, B, InB, OptA, Es, E, Ts, T, InT, OptR, OptX, Ps, P, InP, C, Args, BEs, R, Q, InQ, S, I, OptStar, Is, L, InL, CEs, F, InF, Vs, G, O, Items, W, Ds, D, spell-BE, spell-Bs, spell-B, spell-InB, spell-OptA, spell-Es, spell-E, spell-Ts, spell-T, spell-InT, spell-OptR, spell-OptX, spell-Ps, spell-P, spell-InP, spell-C, spell-Args, spell-BEs, spell-R, spell-Q, spell-InQ, spell-S, spell-I, spell-OptStar, spell-Is, spell_L, spell-InL, spell-CEs, spell-F, spell-InF, spell-Vs, spell-G, spell-O, spell-Items, spell-W, spell-Ds, spell-D}
+use Rattle.grammar.specs.Grammar.{BE, Bs, B, InB, OptA, Es, E, Ts, T, InT, OptR, OptX, Ps, P, InP, C, Args, BEs, R, Q, InQ, S, I, OptStar, Is, L, InL, CEs, F, InF, Vs, G, O, Items, W, Ds, D, spell-BE, spell-Bs, spell-B, spell-InB, spell-OptA, spell-Es, spell-E, spell-Ts, spell-T, spell-InT, spell-OptR, spell-OptX, spell-Ps, spell-P, spell-InP, spell-C, spell-Args, spell-BEs, spell-R, spell-Q, spell-InQ, spell-S, spell-I, spell-OptStar, spell-Is, spell-L, spell-InL, spell-CEs, spell-F, spell-InF, spell-Vs, spell-G, spell-O, spell-Items, spell-W, spell-Ds, spell-D}
 use Rattle.grammar.specs.Grammar.BE.{boolean_expr}
 use Rattle.grammar.specs.Grammar.Bs.{no-B, op-B}
 use Rattle.grammar.specs.Grammar.B.{boolean_term}
@@ -163,7 +163,7 @@ mutual
   sound-Is no-I k h = h
   sound-Is (comma-I s0 x1 x2) k h = (refl, (sound-I x1 _ (sound-Is x2 _ h)))
 
-  pub sound-L : (x : L) (k : Word) → Sound k → Sound (spell_L x k)
+  pub sound-L : (x : L) (k : Word) → Sound k → Sound (spell-L x k)
   sound-L (iterable s0 x1 s1) k h = (refl, (sound-InL x1 _ (refl, h)))
 
   pub sound-InL : (x : InL) (k : Word) → Sound k → Sound (spell-InL x k)

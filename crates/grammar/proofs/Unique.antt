@@ -1,12 +1,11 @@
-use Rattle.std.proofs.Common.{◌≡◌, ℕ, List, ◌∷◌, refl}
+use Rattle.std.proofs.Common.{◌≡◌, ◌∷◌, refl}
 use Rattle.syntax.specs.declared.span.Span.{Span}
-use Rattle.syntax.specs.declared.event.Event.{Event}
-use Rattle.syntax.specs.declared.event.Event.TheVariants.{Begin, End, Token}
+use Rattle.syntax.specs.declared.event.Event.TheVariants.{End, Token}
 use Rattle.kinds.specs.declared.kind.SyntaxKind.{SyntaxKind}
-use Rattle.kinds.specs.declared.kind.SyntaxKind.TheVariants.{BOOLEAN_EXPR, BOOLEAN_TERM, TRUE_KW, FALSE_KW, NOT_KW, DEFINED_KW, L_PAREN, R_PAREN, PATTERN_IDENT, AT_KW, IN_KW, EXPR, TERM, FLOAT_LIT, INTEGER_LIT, STRING_LIT, REGEXP, FILESIZE_KW, ENTRYPOINT_KW, PATTERN_COUNT, PATTERN_OFFSET, PATTERN_LENGTH, BITWISE_NOT, MINUS, L_BRACKET, R_BRACKET, DOT, PRIMARY_EXPR, IDENT, FUNC_CALL, COMMA, RANGE, QUANTIFIER, ALL_KW, ANY_KW, NONE_KW, PERCENT, THEM_KW, PATTERN_IDENT_TUPLE, ASTERISK, ITERABLE, EXPR_TUPLE, FOR_EXPR, FOR_KW, OF_KW, COLON, OF_EXPR, BOOLEAN_EXPR_TUPLE, WITH_EXPR, WITH_KW, WITH_DECLS, WITH_DECL, EQUAL}
+use Rattle.kinds.specs.declared.kind.SyntaxKind.TheVariants.{BOOLEAN_EXPR, BOOLEAN_TERM, R_PAREN, IN_KW, EXPR, TERM, R_BRACKET, DOT, PRIMARY_EXPR, FUNC_CALL, RANGE, QUANTIFIER, PERCENT, PATTERN_IDENT_TUPLE, ITERABLE, EXPR_TUPLE, FOR_EXPR, OF_KW, OF_EXPR, BOOLEAN_EXPR_TUPLE, WITH_EXPR, WITH_DECLS, WITH_DECL}
 use Rattle.grammar.proofs.Heads.{heads, tails, begin_eq, end_eq, token_eq, operator_eq, apart, ap1, ap2, ap3, ap4, ap5, ap6, ap8}
 use Rattle.grammar.specs.Words.{Word}
-use Rattle.grammar.specs.Grammar.{BE, Bs, B, InB, OptA, Es, E, Ts, T, InT, OptR, OptX, Ps, P, InP, C, Args, BEs, R, Q, InQ, S, I, OptStar, Is, L, InL, CEs, F, InF, Vs, G, O, Items, W, Ds, D, spell-BE, spell-Bs, spell-B, spell-InB, spell-OptA, spell-Es, spell-E, spell-Ts, spell-T, spell-InT, spell-OptR, spell-OptX, spell-Ps, spell-P, spell-InP, spell-C, spell-Args, spell-BEs, spell-R, spell-Q, spell-InQ, spell-S, spell-I, spell-OptStar, spell-Is, spell_L, spell-InL, spell-CEs, spell-F, spell-InF, spell-Vs, spell-G, spell-O, spell-Items, spell-W, spell-Ds, spell-D}
+use Rattle.grammar.specs.Grammar.{BE, Bs, B, InB, OptA, Es, E, Ts, T, InT, OptR, OptX, Ps, P, InP, C, Args, BEs, R, Q, InQ, S, I, OptStar, Is, L, InL, CEs, F, InF, Vs, G, O, Items, W, Ds, D, spell-BE, spell-Bs, spell-B, spell-InB, spell-OptA, spell-Es, spell-E, spell-Ts, spell-T, spell-InT, spell-OptR, spell-OptX, spell-Ps, spell-P, spell-InP, spell-C, spell-Args, spell-BEs, spell-R, spell-Q, spell-InQ, spell-S, spell-I, spell-OptStar, spell-Is, spell-L, spell-InL, spell-CEs, spell-F, spell-InF, spell-Vs, spell-G, spell-O, spell-Items, spell-W, spell-Ds, spell-D}
 use Rattle.grammar.specs.Grammar.BE.{boolean_expr}
 use Rattle.grammar.specs.Grammar.Bs.{no-B, op-B}
 use Rattle.grammar.specs.Grammar.B.{boolean_term}
@@ -552,7 +551,7 @@ mutual
       let h2 = same-Is x2 x2' s s' k l h1.1 in
       (ap3 comma-I (token_eq (heads (e))) h1.0 h2.0, h2.1)
 
-  pub same-L : (x y : L) (k l : Word) → spell_L x k ≡ spell_L y l → (x ≡ y) × (k ≡ l)
+  pub same-L : (x y : L) (k l : Word) → spell-L x k ≡ spell-L y l → (x ≡ y) × (k ≡ l)
   same-L (iterable s0 x1 s2) (iterable s0' x1' s2') k l e =
       let h1 = same-InL x1 x1' (End ITERABLE s2 ∷ (k)) (End ITERABLE s2' ∷ (l)) (tails (e)) in
       (ap3 iterable (begin_eq (heads (e))) h1.0 (end_eq (heads h1.1)), tails h1.1)
@@ -598,7 +597,7 @@ mutual
   same-InF (for_of s0 x1) (for_in s0' x1' s2' x3') k l e = apart tt e
   same-InF (for_in s0 x1 s2 x3) (for_of s0' x1') k l e = apart tt e
   same-InF (for_in s0 x1 s2 x3) (for_in s0' x1' s2' x3') k l e =
-      let h1 = same-Vs x1 x1' s2 s2' (spell_L x3 (k)) (spell_L x3' (l)) (tails (e)) in
+      let h1 = same-Vs x1 x1' s2 s2' (spell-L x3 (k)) (spell-L x3' (l)) (tails (e)) in
       let h3 = same-L x3 x3' (k) (l) (tails h1.1) in
       (ap4 for_in (token_eq (heads (e))) h1.0 (token_eq (heads h1.1)) h3.0, h3.1)
 

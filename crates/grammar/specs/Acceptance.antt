@@ -13,7 +13,7 @@ use Rattle.grammar.specs.Built.{tree-BE}
 use Rattle.grammar.specs.Conditions.{Spelled}
 use Rattle.grammar.specs.Causes.{Cause}
 use Rattle.grammar.specs.Extents.{starts, extent_of, ending_of, is_closed, gathered, visible}
-use Rattle.grammar.specs.Answers.{Lent, Outcome, accepted, fits, Comes, Answer}
+use Rattle.grammar.specs.Answers.{Lent, accepted, fits, Comes, Answer}
 
 -- what the grammar sees of the condition that begins with the first event
 abbrev pub word_of : List Event → Word

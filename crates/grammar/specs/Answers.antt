@@ -1,5 +1,5 @@
 -- The answer of a condition: over the source, the events to come and their close, and the lengths of the memory lent.
-use Rattle.std.specs.Prelude.{◌≡◌, ℕ, ◌+◌, ◌-◌, Bool, true, false, cond, ◌&&◌, List, [], ◌∷◌, ◌++◌, length, drop, Some, None, nat_le, nat_lt}
+use Rattle.std.specs.Prelude.{◌≡◌, ℕ, Bool, true, false, cond, ◌&&◌, List, [], ◌∷◌, ◌++◌, length, drop, Some, None, nat_le, nat_lt}
 use Rattle.syntax.specs.Events.{blank}
 use Rattle.syntax.specs.Spans.{span_of}
 use Rattle.syntax.specs.declared.event.Event.{Event}

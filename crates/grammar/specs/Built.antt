@@ -11,9 +11,9 @@ use Rattle.literal.specs.Regexps.{regexp_of}
 use Rattle.literal.specs.Strings.{string_of, decoded_bytes}
 use Rattle.literal.specs.declared.integer.Integer.{Integer}
 use Rattle.tree.specs.Kinds.{same}
-use Rattle.tree.specs.Labels.{Label, plain, zero_float, no_flags}
+use Rattle.tree.specs.Labels.{Label, plain, zero_float}
 use Rattle.tree.specs.Labels.Name.{in_source}
-use Rattle.tree.specs.Trees.{Tree, Trees, label_at, behind}
+use Rattle.tree.specs.Trees.{Tree, Trees, label_at}
 use Rattle.tree.specs.Trees.Tree.{node}
 use Rattle.tree.specs.Trees.Trees.{none, more}
 use Rattle.tree.specs.declared.node.NodeKind.{NodeKind}

@@ -1,12 +1,12 @@
 -- Worked examples: conditions and their trees.
-use Rattle.std.specs.Prelude.{◌≡◌, ℕ, ◌-◌, ◌^◌, Bool, true, false, List, ℤ, pos, negsuc, Some, None, codes}
+use Rattle.std.specs.Prelude.{◌≡◌, ℕ, ◌-◌, ◌^◌, Bool, true, false, ℤ, pos, negsuc, Some, None, codes}
 use Rattle.kinds.specs.declared.kind.SyntaxKind.TheVariants.{SUB, INTEGER_LIT, STRING_LIT, FLOAT_LIT}
 use Rattle.syntax.specs.Spans.{span_of}
 use Rattle.syntax.specs.declared.event.Event.TheVariants.{Token}
 use Rattle.syntax.specs.declared.span.Span.{Span}
 use Rattle.refusal.specs.declared.refusal.Refusal.TheVariants.{InvalidInteger, InvalidEscape, FloatTooLong}
 use Rattle.tree.specs.Labels.{plain}
-use Rattle.tree.specs.Trees.{Tree, Trees}
+use Rattle.tree.specs.Trees.{Tree}
 use Rattle.tree.specs.Trees.Tree.{node}
 use Rattle.tree.specs.Trees.Trees.{none, more}
 use Rattle.tree.specs.declared.node.NodeKind.TheVariants.{Sub, FieldAccess, Ident, Minus}

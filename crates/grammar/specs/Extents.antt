@@ -1,5 +1,5 @@
 -- The events of a condition in a list of events, and what becomes of them.
-use Rattle.std.specs.Prelude.{ℕ, zero, suc, ◌+◌, Bool, true, false, cond, not, ◌||◌, List, [], ◌∷◌, ◌++◌, take, drop, Some, None, Option}
+use Rattle.std.specs.Prelude.{ℕ, zero, suc, Bool, true, false, cond, List, [], ◌∷◌, Some, None, Option}
 use Rattle.kinds.specs.Kinds.{same}
 use Rattle.kinds.specs.declared.kind.SyntaxKind.TheVariants.{BOOLEAN_EXPR}
 use Rattle.syntax.specs.Events.{is_trivia, is_boundary, span_at}

@@ -307,8 +307,8 @@ unfoldable mutual
   spell-Is no-I k = k
   spell-Is (comma-I s0 x1 x2) k = Token COMMA s0 ∷ (spell-I x1 (spell-Is x2 k))
 
-  pub spell_L : L → Word → Word
-  spell_L (iterable s0 x1 s1) k = Begin ITERABLE s0 ∷ (spell-InL x1 (End ITERABLE s1 ∷ k))
+  pub spell-L : L → Word → Word
+  spell-L (iterable s0 x1 s1) k = Begin ITERABLE s0 ∷ (spell-InL x1 (End ITERABLE s1 ∷ k))
 
   pub spell-InL : InL → Word → Word
   spell-InL (over_range x0) k = spell-R x0 k
@@ -324,7 +324,7 @@ unfoldable mutual
 
   pub spell-InF : InF → Word → Word
   spell-InF (for_of s0 x1) k = Token OF_KW s0 ∷ (spell-S x1 k)
-  spell-InF (for_in s0 x1 s1 x3) k = Token IDENT s0 ∷ (spell-Vs x1 (Token IN_KW s1 ∷ (spell_L x3 k)))
+  spell-InF (for_in s0 x1 s1 x3) k = Token IDENT s0 ∷ (spell-Vs x1 (Token IN_KW s1 ∷ (spell-L x3 k)))
 
   pub spell-Vs : Vs → Word → Word
   spell-Vs no-V k = k

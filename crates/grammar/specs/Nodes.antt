@@ -1,18 +1,13 @@
 -- The nodes of a condition's tree.
-use Rattle.std.specs.Prelude.{ℕ, Bool, true, false, cond, List, [], ℤ, pos, Some, None, Ok, Err, Option, Result, Float}
+use Rattle.std.specs.Prelude.{ℕ, Bool, false, List, pos, Ok, Err, Result, Float}
 use Rattle.std.specs.Option.{unwrap_or}
 use Rattle.syntax.specs.Spans.{combined}
 use Rattle.syntax.specs.declared.span.Span.{Span}
 use Rattle.refusal.specs.declared.refusal.Refusal.{Refusal}
-use Rattle.literal.specs.Floats.{float_of}
-use Rattle.literal.specs.Integers.{integer_of, negated}
-use Rattle.literal.specs.Regexps.{regexp_of}
-use Rattle.literal.specs.Strings.{string_of, decoded_bytes}
 use Rattle.literal.specs.declared.integer.Integer.{Integer}
 use Rattle.literal.specs.declared.regexp.Regexp.{Regexp}
 use Rattle.literal.specs.declared.string.StringValue.{StringValue}
 use Rattle.literal.specs.declared.string.StringValue.TheVariants.{Source, Decoded}
-use Rattle.tree.specs.Kinds.{same}
 use Rattle.tree.specs.Labels.{Label, Flags, Name, plain, no_flags, no_name, zero_float}
 use Rattle.tree.specs.Labels.Name.{in_source, decoded}
 use Rattle.tree.specs.Trees.{Tree, Trees, label_at, behind}

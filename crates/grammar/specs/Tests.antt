@@ -1,5 +1,5 @@
 -- What is tested of each event of a condition, beside its place in the grammar.
-use Rattle.std.specs.Prelude.{ℕ, ◌+◌, ◌-◌, Bool, true, false, cond, ◌||◌, List, [], ◌∷◌, ◌++◌, length, Some, None, Ok, Err, Option, Result, nat_le, nat_lt}
+use Rattle.std.specs.Prelude.{ℕ, ◌+◌, ◌-◌, Bool, false, cond, ◌||◌, List, [], ◌∷◌, Some, None, Ok, Err, Option, Result, nat_le, nat_lt}
 use Rattle.kinds.specs.Kinds.{same}
 use Rattle.kinds.specs.declared.kind.SyntaxKind.{SyntaxKind}
 use Rattle.kinds.specs.declared.kind.SyntaxKind.TheVariants.{ERROR, IDENT, PATTERN_IDENT, PATTERN_COUNT, PATTERN_OFFSET, PATTERN_LENGTH, INTEGER_LIT, FLOAT_LIT, STRING_LIT, REGEXP}
@@ -11,7 +11,7 @@ use Rattle.literal.specs.Floats.{float_of}
 use Rattle.literal.specs.Integers.{integer_of, negated}
 use Rattle.literal.specs.Regexps.{regexp_of}
 use Rattle.literal.specs.Strings.{string_of}
-use Rattle.literal.specs.Texts.{text_of, and_then}
+use Rattle.literal.specs.Texts.{text_of}
 use Rattle.literal.specs.declared.integer.Integer.{Integer}
 use Rattle.operators.specs.Levels.{among}
 use Rattle.grammar.specs.Words.{Word}

@@ -1,4 +1,6 @@
 // The grammar of conditions: definitions, and what is proved of them. Each function says what it is named after.
+#![tactic(auto)]
+
 mod entry;
 
 ghost use Rattle.grammar.specs.Acceptance.{AcceptedExactly, AcceptedHolds};

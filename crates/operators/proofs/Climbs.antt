@@ -1,8 +1,8 @@
 -- The operator between two lists is the top where no operator on its left is weaker and every one on its right is stronger.
 use Rattle.std.proofs.Common.{◌≡◌, ℕ, ◌+◌, ◌<◌, ◌≤◌, Bool, true, false, cond, sym, refl, ap, ◌∙◌, subst, arith}
-use Rattle.operators.specs.Groups.{Ops, Group, joined, flat, Each, Keeps, grouped}
-use Rattle.operators.specs.Groups.Ops.{lone, then}
-use Rattle.operators.specs.Groups.Group.{leaf, top}
+use Rattle.operators.specs.Groups.{Ops, joined, flat, Each, grouped}
+use Rattle.operators.specs.Groups.Ops.{lone}
+use Rattle.operators.specs.Groups.Group.{top}
 use Rattle.operators.specs.Merges.{Making, goes_on, join_trees, merged, tree_of, opened}
 use Rattle.operators.specs.Claims.{Between, Climbs, Joins, Unchanged}
 use Rattle.operators.proofs.Exists.{each_map, each_joined, flat_grouped, keeps_grouped, is_grouped}

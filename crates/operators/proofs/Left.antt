@@ -1,5 +1,5 @@
 -- At one level the grouping from the left keeps the rule.
-use Rattle.std.proofs.Common.{◌≡◌, ℕ, ◌<◌, ◌≤◌, sym, refl, ap, ◌∙◌, arith}
+use Rattle.std.proofs.Common.{◌≡◌, ℕ, ◌≤◌, refl, ap, ◌∙◌, arith}
 use Rattle.operators.specs.Groups.{Ops, Group, joined, flat, Each, Keeps, from_left, left_comb, OneGrouping}
 use Rattle.operators.specs.Groups.Ops.{lone, then}
 use Rattle.operators.specs.Groups.Group.{leaf, top}

@@ -1,9 +1,8 @@
 -- The operators are those of the table, and merge into their own nodes.
-use Rattle.std.proofs.Common.{◌≡◌, ℕ, suc, Bool, true, false, cond, ◌||◌, List, [], ◌∷◌, ◌++◌, is_some, Some, None, Option, sym, refl, ap, ◌∙◌, arith, eqb-true}
+use Rattle.std.proofs.Common.{◌≡◌, ℕ, suc, Bool, true, false, cond, ◌||◌, List, [], ◌∷◌, ◌++◌, is_some, Some, sym, refl, ap, ◌∙◌, eqb-true}
 use Rattle.kinds.specs.Kinds.{number_of, same}
 use Rattle.kinds.specs.declared.kind.SyntaxKind.{SyntaxKind}
 use Rattle.kinds.proofs.Inverse.{number_same}
-use Rattle.tree.specs.declared.node.NodeKind.{NodeKind}
 use Rattle.operators.specs.Levels.{levels, among, level_from, level_of, is_operator}
 use Rattle.operators.specs.Nodes.{Made, nodes, merges, made_by, node_of, merging_of, Own}
 

@@ -1,4 +1,4 @@
-use Rattle.std.proofs.Common.{◌≡◌, ℕ, ◌<◌, ◌≤◌, sym, refl, ap, ◌∙◌, subst, arith}
+use Rattle.std.proofs.Common.{◌≡◌, ℕ, ◌<◌, ◌≤◌, sym, subst, arith}
 use Rattle.operators.specs.Groups.{Ops, Group, joined, flat, Each, Keeps}
 use Rattle.operators.specs.Groups.Ops.{lone, then}
 use Rattle.operators.specs.Groups.Group.{leaf, top}

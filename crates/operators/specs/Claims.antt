@@ -2,7 +2,7 @@
 use Rattle.std.specs.Prelude.{◌≡◌, ℕ, ◌<◌, ◌≤◌, true, Some}
 use Rattle.kinds.specs.declared.kind.SyntaxKind.{SyntaxKind}
 use Rattle.operators.specs.Levels.{level_of, is_operator, strength}
-use Rattle.operators.specs.Groups.{Ops, Group, joined, flat, Each, Keeps, left_comb, grouped, OneGrouping}
+use Rattle.operators.specs.Groups.{Ops, joined, Each, left_comb, grouped, OneGrouping}
 use Rattle.operators.specs.Groups.Ops.{lone}
 use Rattle.operators.specs.Groups.Group.{top}
 use Rattle.operators.specs.Merges.{Making, join_trees, opened, tree_of}

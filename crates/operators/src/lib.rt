@@ -1,4 +1,6 @@
 // The binary operators of YARA's conditions: how strongly each binds, and which node it makes or merges into.
+#![tactic(auto)]
+
 mod joining;
 mod laws;
 mod making;

@@ -1,4 +1,6 @@
 // Reading slots whose links and places are wrong.
+#![tactic(auto)]
+
 #[cfg(test)]
 mod tests {
     use outline::{Form, show};

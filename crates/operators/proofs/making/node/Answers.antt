@@ -6,5 +6,5 @@ use Rattle.operators.proofs.making.node.Goals as goal
 pub returns : goal.returns
 unfolding node_of
 returns c =
-    let found : c.node-of.result ≡ node_of c.args.kind = c.node-of.ensures in
+    let found : c.node_of.result ≡ node_of c.args.kind = c.node_of.ensures in
     record { value = found; test = ap is_some found ∙ node_operator c.args.kind }

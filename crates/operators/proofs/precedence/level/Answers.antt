@@ -6,5 +6,5 @@ use Rattle.operators.proofs.precedence.level.Goals as goal
 pub returns : goal.returns
 unfolding level_of
 returns c =
-    let found : c.level-of.result ≡ level_of c.args.kind = c.level-of.ensures in
-    record { value = found; cases = table c.args.kind c.level-of.result found }
+    let found : c.level_of.result ≡ level_of c.args.kind = c.level_of.ensures in
+    record { value = found; cases = table c.args.kind c.level_of.result found }

@@ -8,13 +8,13 @@ returns c =
     let r = c.put-2.result in
     let after : List ℕ = string_bytes c.put-2.new.out in
     let link : List ℕ = decimal c.args.link in
-    then_adds r (string_bytes c.args.out.now) (string_bytes c.put-indent.new.out) after
+    then_adds r (string_bytes c.args.out.now) (string_bytes c.put_indent.new.out) after
     (indent_text c.args.view.form c.args.depth)
     (codes "<broken link " ++ (link ++ codes ">"))
-    c.in-ok-put-indent.ensures
-    (then_adds r (string_bytes c.put-indent.new.out) (string_bytes c.put.new.out) after (codes "<broken link ")
+    c.in_ok-put_indent.ensures
+    (then_adds r (string_bytes c.put_indent.new.out) (string_bytes c.put.new.out) after (codes "<broken link ")
     (link ++ codes ">")
-    c.in-ok-put.ensures
-    (then_adds r (string_bytes c.put.new.out) (string_bytes c.put-unsigned.new.out) after link (codes ">")
-    c.in-ok-put-unsigned.ensures
+    c.in_ok-put.ensures
+    (then_adds r (string_bytes c.put.new.out) (string_bytes c.put_unsigned.new.out) after link (codes ">")
+    c.in_ok-put_unsigned.ensures
     c.put-2.ensures))

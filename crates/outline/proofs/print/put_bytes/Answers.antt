@@ -8,7 +8,7 @@ loop-byte-preserved c =
     let bytes : List ℕ = c.args.bytes.now in
     let i : ℕ = c.loop-byte.byte-index in
     let before : List ℕ = string_bytes c.loop-byte.out in
-    ap (λ l. l ++ bytes_text (drop (i + 1) bytes)) c.in-ok-put-byte.ensures
+    ap (λ l. l ++ bytes_text (drop (i + 1) bytes)) c.in_ok-put_byte.ensures
     ∙ append_assoc before (byte_text (get_or bytes i 0)) (bytes_text (drop (i + 1) bytes))
     ∙ ap (λ l. before ++ bytes_text l) (sym (drop_more bytes i 0 c.loop-byte-test.true))
     ∙ c.loop-byte.invariant

@@ -13,12 +13,12 @@ returns c =
     let place : List ℕ = place_in view.form s in
     let said : List ℕ = said_text s view.source.now view.text.now in
     let flags : List ℕ = flag_text s in
-    let r = c.put-flags.result in
-    let after : List ℕ = string_bytes c.put-flags.new.out in
+    let r = c.put_flags.result in
+    let after : List ℕ = string_bytes c.put_flags.new.out in
     then_adds r before (string_bytes c.put.new.out) after kind (place ++ (said ++ flags))
-    (c.in-ok-put.ensures ∙ ap (λ l. before ++ l) c.name.ensures)
-    (then_adds r (string_bytes c.put.new.out) (string_bytes c.put-place-in.new.out) after place (said ++ flags)
-    c.in-ok-put-place-in.ensures
-    (then_adds r (string_bytes c.put-place-in.new.out) (string_bytes c.put-said.new.out) after said flags
-    c.in-ok-put-said.ensures
-    c.put-flags.ensures))
+    (c.in_ok-put.ensures ∙ ap (λ l. before ++ l) c.name.ensures)
+    (then_adds r (string_bytes c.put.new.out) (string_bytes c.put_place_in.new.out) after place (said ++ flags)
+    c.in_ok-put_place_in.ensures
+    (then_adds r (string_bytes c.put_place_in.new.out) (string_bytes c.put_said.new.out) after said flags
+    c.in_ok-put_said.ensures
+    c.put_flags.ensures))

@@ -5,8 +5,8 @@ use Rattle.outline.proofs.print.put_node.Goals as goal
 
 pub returns : goal.returns
 returns c =
-    then_adds c.put-label.result (string_bytes c.args.out.now) (string_bytes c.put-indent.new.out) _
+    then_adds c.put_label.result (string_bytes c.args.out.now) (string_bytes c.put_indent.new.out) _
     (indent_text c.args.view.form c.args.depth)
     (label_text c.args.view c.args.slot.now)
-    c.in-ok-put-indent.ensures
-    c.put-label.ensures
+    c.in_ok-put_indent.ensures
+    c.put_label.ensures

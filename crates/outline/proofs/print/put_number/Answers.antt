@@ -13,5 +13,5 @@ returns c =
     (string_bytes c.put-2.new.out)
     (codes " ")
     digits
-    c.in-ok-put.ensures
+    c.in_ok-put.ensures
     last

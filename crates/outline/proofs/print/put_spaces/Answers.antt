@@ -13,7 +13,7 @@ loop-preserved c =
     let left : ℕ = c.args.depth - (c.loop.counter + 1) in
     let before : List ℕ = string_bytes c.loop.out in
     let one : suc left ≡ c.args.depth - c.loop.counter = omega arith in
-    ap (λ l. l ++ spaces left) c.in-ok-put.ensures
+    ap (λ l. l ++ spaces left) c.in_ok-put.ensures
     ∙ append_assoc before (codes "  ") (spaces left)
     ∙ ap (λ n. before ++ spaces n) one
     ∙ c.loop.invariant

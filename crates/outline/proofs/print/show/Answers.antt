@@ -14,5 +14,5 @@ returns c =
       text = c.args.text;
       heap = c.args.heap;
     } in
-    let e : string_bytes c.put-tree.new.out ≡ show_text v c.args.number = search rules in
-    record { made = e; whole = whole_from v c.args.number (string_bytes c.put-tree.new.out) e }
+    let e : string_bytes c.put_tree.new.out ≡ show_text v c.args.number = search rules in
+    record { made = e; whole = whole_from v c.args.number (string_bytes c.put_tree.new.out) e }
