@@ -73,7 +73,7 @@ accepted_holds source es c n t slots text row errors count rest a =
     let room = and_both (leb (size t) n.slots) (leb (length (text_of t)) n.text) w.fitting in
     let S : List Slot → Type 0 = λ x. part.Within x 0 (layout t) in
     let X : List ℕ → Type 0 = λ x. part.Within x 0 (text_of t) in
-    let slots-in = subst S (sym a.slots_are) (fit_within blank_slot n.slots (layout t) (omega (arith, leb-true _ _ room.0, length_tree t 0 0 0))) in
+    let slots_in = subst S (sym a.slots_are) (fit_within blank_slot n.slots (layout t) (omega (arith, leb-true _ _ room.0, length_tree t 0 0 0))) in
     let text_in = subst X (sym a.text_is) (fit_within 0 n.text (text_of t) (leb-true _ _ room.1)) in
-    let h = tree_held slots text t 0 0 0 (size t - 1) (last_of t) slots-in text_in in
-    (h, tree_reached slots text t 0 0 0 (size t - 1) (last_of t) slots-in h)
+    let h = tree_held slots text t 0 0 0 (size t - 1) (last_of t) slots_in text_in in
+    (h, tree_reached slots text t 0 0 0 (size t - 1) (last_of t) slots_in h)

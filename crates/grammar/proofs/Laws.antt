@@ -61,8 +61,8 @@ snoc (a ∷ b ∷ v) n =
     not_nil e = let z : ◌≡◌ {A = ℕ} 0 1 = cc in omega arith
 
 pub without_cause_spelled : WithoutCauseSpelled
-without_cause_spelled source v none n o no-spelled =
+without_cause_spelled source v none n o no_spelled =
     let s = snoc v n in
-    let no-begins : Begins (s.0 ++ (s.1 ∷ [])) → ⊥ = λ b. no-spelled (closed_is_whole v (subst Begins (sym s.2) b) n o) in
-    let c = last_cause source s.0 s.1 (is_damaged s.1) (is_misplaced (length source) s.0 s.1) refl refl no-begins in
+    let no_begins : Begins (s.0 ++ (s.1 ∷ [])) → ⊥ = λ b. no_spelled (closed_is_whole v (subst Begins (sym s.2) b) n o) in
+    let c = last_cause source s.0 s.1 (is_damaged s.1) (is_misplaced (length source) s.0 s.1) refl refl no_begins in
     none (length s.0) c.0 (record { before = s.0; event = s.1; others = []; split = s.2; place = refl; why = c.1 })

@@ -5,7 +5,7 @@ use Rattle.tree.specs.Labels.{Label, plain}
 use Rattle.tree.specs.Memory.{Memory, memory_of}
 use Rattle.tree.specs.Trees.Tree.{node}
 use Rattle.tree.specs.Trees.Trees.{none, more}
-use Rattle.tree.proofs.Pendings.{leaf-at, raised}
+use Rattle.tree.proofs.Pendings.{leaf_pending_at, raised}
 use Rattle.gathnomir.specs.Demo.{with_name}
 use Rattle.gathnomir.proofs.demo.inner.Goals as goal
 
@@ -14,7 +14,7 @@ returns c few =
     let m : Memory = memory_of c.args.placer.now in
     let b : Label = with_name Ident (span_of 5 6) in
     let sub : Label = plain Sub (span_of 5 10) in
-    let first = leaf-at b m c.named-placer.result refl c.named-placer.ensures in
+    let first = leaf_pending_at b m c.named-placer.result refl c.named-placer.ensures in
     let m₁ : Memory = memory_of c.adopt.new.self in
     let begun =
     raised sub (node b none) c.node.result m.used m m m₁ c.named-placer.result c.adopt.new.self.root refl
@@ -22,7 +22,7 @@ returns c few =
     first
     (omega arith)
     c.adopt.ensures.grows in
-    let second = leaf-at (with_name Ident (span_of 9 10)) m₁ c.named-placer-2.result refl c.named-placer-2.ensures in
+    let second = leaf_pending_at (with_name Ident (span_of 9 10)) m₁ c.named-placer-2.result refl c.named-placer-2.ensures in
     let used = ap (λ (x : Memory). x.used) begun.memory in
     c.adopt-2.ensures.grows (node sub (more (node b none) none)) (node (with_name Ident (span_of 9 10)) none) m m₁ begun (λ z. refl)
     second
