@@ -1,4 +1,6 @@
 // Reads the gathered events of a condition into a tree in lent slots and text.
+#![tactic(auto)]
+
 mod choice;
 mod cycle;
 mod grow;
