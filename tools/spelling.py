@@ -14,9 +14,8 @@ import re
 import sys
 
 NAME = r"[^\s(){}\[\],;.«»|\"`]+"
-ALONE = re.compile(r"^(?:pub )?(" + NAME + r")\n +:", re.M)
 LOCAL = re.compile(r"\blet (" + NAME + r") (?:=|:)")
-HEAD = re.compile(r"\s*(?:pub |abbrev |unfoldable )*(?:(data|record) )?(?:pub )?((?:" + NAME + r" )*?" + NAME + r")\s*(?:\(|\{|:(?=\s))")
+HEAD = re.compile(r"\s*(?:pub |abbrev |unfoldable )*(?:(data|record) )?(?:pub )?((?:" + NAME + r" )*?" + NAME + r")\s*(?:\(|\{|:(?=\s|$))")
 TOKEN = re.compile(NAME)
 ALIAS = re.compile(r" as (" + NAME + r")(?=[,}]|$)", re.M)
 # Where two names would fall together: a lemma named after what it is about gets _lem, the others another word.
@@ -32,6 +31,7 @@ BY_HAND = {
     "itemTree": "item_choice_tree",
     "tooDeep": "is_past_depth",
     "spell_L": "spell-L",
+    "leaf-at": "leaf_pending_at",
 }
 
 
@@ -81,7 +81,7 @@ def declared():
             found.setdefault(alias, set()).add(path)
         if path.endswith(".rt") or is_made(path) or os.path.basename(path) == "Lib.antt":
             continue
-        for name in ALONE.findall(read(path)) + LOCAL.findall(read(path)):
+        for name in LOCAL.findall(read(path)):
             found.setdefault(name, set()).add(path)
         for line in read(path).splitlines():
             m = HEAD.match(line)
