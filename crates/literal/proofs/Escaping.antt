@@ -159,9 +159,6 @@ pub record Progress (text start : List ℕ) (from : ℕ) (state : State) (n : �
   pub memory : out ≡ overlay start from ds
   pub left : reading text ≡ after ds (reading_from 0 (held ++ drop i text))
 
-pub started : (text start : List ℕ) (from : ℕ) → Progress text start from Plain 0 start 0
-started text start from = record { ds = []; held = []; holds = refl; small = tt; count = refl; few = omega arith; memory = refl; left = refl }
-
 -- what is left, with its first byte
 turn : (text : List ℕ) (i : ℕ) → i < length text → drop i text ≡ get_or text i 0 ∷ drop (i + 1) text
 turn text i h = drop-cons text i 0 h ∙ ap (λ j. get_or text i 0 ∷ drop j text) (sym (add-one i))

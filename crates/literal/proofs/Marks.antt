@@ -20,9 +20,6 @@ pub record Left (room start : ℕ) (tail : List ℕ) (at : ℕ) (i s : Bool) (re
   pub has_i : has 105 (chars tail) ≡ (i || has 105 (chars rest))
   pub has_s : has 115 (chars tail) ≡ (s || has 115 (chars rest))
 
-pub left_start : (room at : ℕ) (tail : List ℕ) → IsUtf8 tail → at + length tail ≤ room → Left room at tail at false false tail
-left_start room at tail u h = record { text = u; bound = h; bad = refl; has_i = refl; has_s = refl }
-
 shorter : (bs rest : List ℕ) (c n at : ℕ) → bs ≡ encode c ++ rest → at + length bs ≤ n → (at + 1 + length rest ≤ n) × (at + len_utf8 c ≤ n)
 shorter bs rest c n at e h = let w = len_utf8_bounds c in (omega (arith, ap length e, length-append (encode c) rest, length-encode c), omega (arith, ap length e, length-append (encode c) rest, length-encode c))
 

@@ -1,4 +1,6 @@
 // Replays a table of literals and compares each answer with the one that the table has.
+#![tactic(auto)]
+
 mod answer;
 mod table;
 #[cfg(test)]
