@@ -1,14 +1,15 @@
 #!/bin/sh
 # Times the proved event sources beside plain Rust loops over the same packed events, five runs in turn.
-# usage: bench/sources.sh [EVENTS [ROUNDS]]   (needs rustc; run `rt check` first)
+# usage: bench/sources.sh [EVENTS [ROUNDS]]   (needs rustc and the kit)
 set -e
 cd "$(dirname "$0")/.."
 events=${1:-crates/gathnomir/data/screening.events}
 rounds=${2:-20000}
 mkdir -p target/bench
+(cd crates/source_speed && rt run >/dev/null)
 rustc -C opt-level=3 -o target/bench/plain bench/plain.rs
 for run in 1 2 3 4 5; do
-    target/bin/source_speed "$events" "$rounds"
+    crates/source_speed/out/source_speed "$events" "$rounds"
     target/bench/plain "$events" "$rounds"
 done | awk -v rounds="$rounds" '
     { if (best[$1 "p"] == "" || $3 < best[$1 "p"]) best[$1 "p"] = $3
