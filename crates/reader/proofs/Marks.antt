@@ -1,15 +1,16 @@
 -- Marks of events.
-use Rattle.std.proofs.Common.{◌≡◌, ℕ, Bool, true, false, cond, sym, refl, ap, ◌∙◌, subst, arith, eqb-true}
+use Rattle.std.proofs.Common.{◌≡◌, Bool, true, false, sym, ap, subst, eqb-true}
+use Rattle.std.specs.Prelude.{MatchBool}
 use borrow.Author.Tests.{eqb-false}
 use Rattle.kinds.specs.Kinds.{number_of, same}
 use Rattle.kinds.specs.declared.kind.SyntaxKind.{SyntaxKind}
 use Rattle.kinds.proofs.Inverse.{number_same}
 use Rattle.syntax.specs.declared.event.Event.{Event}
-use Rattle.syntax.specs.declared.event.Event.TheVariants.{Error, Begin, End, Token}
+use Rattle.syntax.specs.declared.event.Event.TheVariants.{Begin, End, Token}
 use Rattle.syntax.specs.declared.span.Span.{Span}
 use Rattle.reader.specs.declared.mark.Mark.{Mark}
 use Rattle.reader.specs.declared.mark.Mark.TheVariants as mark
-use Rattle.reader.specs.Symbols.{event, Fits}
+use Rattle.reader.specs.Symbols.{Fits}
 
 pub same_true : (k j : SyntaxKind) → same k j ≡ true → k ≡ j
 same_true k j e = number_same k j (eqb-true _ _ e)
@@ -24,7 +25,7 @@ pub token_kind : {a b : SyntaxKind} {s r : Span} → Token a s ≡ Token b r →
 token_kind e = cc
 
 abbrev Told : Bool → Mark → Event → Type 0
-Told b m e = cond b (Fits m e) (Fits m e → ⊥)
+Told b m e = MatchBool b (Fits m e) (Fits m e → ⊥)
 
 pub fit_begin : (b : Bool) (k j : SyntaxKind) (s : Span) → b ≡ same k j → Told b (mark.Begin j) (Begin k s)
 fit_begin true k j s e = (s, ap (λ t. Begin t s) (same_true k j (sym e)))

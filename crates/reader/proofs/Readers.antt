@@ -1,6 +1,6 @@
 -- What the steps of a reader do.
-use Rattle.std.proofs.Common.{◌≡◌, ℕ, ◌+◌, ◌<◌, ◌≤◌, Bool, true, false, cond, List, [], ◌∷◌, ◌++◌, length, get_or, take, drop, sym, refl, ap, ◌∙◌, subst}
-use Rattle.std.proofs.lemmas.List.{append-nil}
+use Rattle.std.proofs.Common.{◌≡◌, ℕ, ◌+◌, ◌<◌, Bool, true, false, cond, List, [], ◌∷◌, length, get_or, take, drop, sym, ap, ◌∙◌, subst}
+use Rattle.std.specs.Prelude.{MatchBool}
 use Rattle.syntax.specs.declared.event.Event.{Event}
 use Rattle.syntax.specs.declared.event.Event.TheVariants.{Error}
 use Rattle.syntax.specs.declared.span.Span.{Span}
@@ -9,8 +9,7 @@ use Rattle.grammar.specs.Extents.{visible}
 use Rattle.reader.specs.declared.mark.Mark.{Mark}
 use Rattle.reader.specs.declared.reader.Reader.{Reader}
 use Rattle.reader.specs.Symbols.{Fits, Ahead}
-use Rattle.reader.specs.States.{State}
-use Rattle.reader.specs.Contract.{Conf, conf, state_of, Shown}
+use Rattle.reader.specs.Contract.{Conf, conf, Shown}
 use Rattle.reader.proofs.Lists.{nil_cons, heads}
 use Rattle.reader.proofs.Rows.{Seen, skip_rest, skip_past, seen_rest, seen_past, seen_none}
 
@@ -27,7 +26,7 @@ pub shown : (p : Reader) (d : Event) → p.at < length p.row.now → Seen (get_o
 shown p d h n =
     record { less = h; front = seen_rest p.row.now p.at d h n; past = seen_past p.row.now p.at d h n; errors = seen_none p.row.now p.at d h n }
 
-pub told : (b : Bool) (m : Mark) (e : Event) (v es : Word) → v ≡ e ∷ es → cond b (Fits m e) (Fits m e → ⊥) → cond b (Ahead v (Fits m)) (Ahead v (Fits m) → ⊥)
+pub told : (b : Bool) (m : Mark) (e : Event) (v es : Word) → v ≡ e ∷ es → MatchBool b (Fits m e) (Fits m e → ⊥) → cond b (Ahead v (Fits m)) (Ahead v (Fits m) → ⊥)
 told true m e v es p q = record { first = e; others = es; front = p; so = q }
 told false m e v es p q = λ a. q (subst (λ x. Fits m x) (heads (sym a.front ∙ p)) a.so)
 

@@ -1,12 +1,11 @@
 -- What the grammar sees of a row.
-use Rattle.std.proofs.Common.{◌≡◌, ℕ, zero, suc, ◌+◌, ◌<◌, ◌≤◌, List, [], ◌∷◌, ◌++◌, length, get_or, take, drop, sym, refl, ap, ◌∙◌, subst, add-one, arith, take-suc}
+use Rattle.std.proofs.Common.{◌≡◌, ℕ, ◌+◌, ◌<◌, ◌≤◌, List, [], ◌∷◌, ◌++◌, length, get_or, take, drop, sym, refl, ap, ◌∙◌, add-one, arith, take-suc}
 use lib.Seq.{split_at}
-use Rattle.std.proofs.lemmas.List.{append-nil, append_assoc, drop_more, drop_all, take_all}
+use Rattle.std.proofs.lemmas.List.{append-nil, drop_more, drop_all, take_all}
 use Rattle.syntax.specs.declared.event.Event.{Event}
 use Rattle.syntax.specs.declared.event.Event.TheVariants.{Error, Begin, End, Token}
 use Rattle.syntax.specs.declared.span.Span.{Span}
 use Rattle.grammar.specs.declared.entry.Entry.{Entry}
-use Rattle.grammar.specs.Words.{Word}
 use Rattle.grammar.specs.Extents.{visible, entries_in, entries_before}
 
 pub visible-++ : (xs ys : List Event) → visible (xs ++ ys) ≡ visible xs ++ visible ys

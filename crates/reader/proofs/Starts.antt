@@ -1,9 +1,8 @@
 -- What the words of a symbol begin with.
-use Rattle.std.proofs.Common.{◌≡◌, ℕ, Bool, true, false, cond, not, T, eqb, ◌⊎◌, List, [], ◌∷◌, ◌++◌, sym, refl, ap, ◌∙◌, subst, inl, inr, arith, T_not, eq-eqb}
+use Rattle.std.proofs.Common.{◌≡◌, ℕ, Bool, true, false, cond, not, T, ◌⊎◌, List, [], ◌∷◌, ◌++◌, sym, refl, ap, ◌∙◌, subst, inl, inr, arith, T_not, eq-eqb}
 use Rattle.kinds.specs.Kinds.{number_of, same}
 use Rattle.kinds.specs.declared.kind.SyntaxKind.{SyntaxKind}
 use Rattle.syntax.specs.declared.event.Event.{Event}
-use Rattle.syntax.specs.declared.event.Event.TheVariants.{Begin, End, Token}
 use Rattle.syntax.specs.declared.span.Span.{Span}
 use Rattle.grammar.specs.Words.{Word}
 use Rattle.reader.specs.declared.mark.Mark.{Mark}

@@ -1,5 +1,5 @@
 -- Single events that are taken or refused.
-use Rattle.std.proofs.Common.{◌≡◌, ℕ, ◌+◌, Bool, true, false, cond, not, ◌||◌, List, [], ◌∷◌, ◌++◌, length, take, drop, IsErrAnd, Some, None, Ok, Err, Result, sym, refl, ap, ◌∙◌, subst, arith}
+use Rattle.std.proofs.Common.{◌≡◌, ℕ, ◌+◌, Bool, true, false, cond, not, List, [], ◌∷◌, ◌++◌, length, take, drop, IsErrAnd, Some, None, Ok, Err, Result, sym, refl, ap, ◌∙◌, subst, arith}
 use borrow.Author.Tests.{both_ways}
 use Rattle.std.proofs.lemmas.List.{append-nil, append_assoc}
 use Rattle.kinds.specs.Kinds.{same}
@@ -8,25 +8,24 @@ use Rattle.kinds.specs.declared.kind.SyntaxKind.TheVariants.{TERM, MINUS, IDENT,
 use Rattle.syntax.specs.Events.{span_at}
 use Rattle.syntax.specs.Spans.{span_of}
 use Rattle.syntax.specs.declared.event.Event.{Event}
-use Rattle.syntax.specs.declared.event.Event.TheVariants.{Error, Begin, End, Token}
+use Rattle.syntax.specs.declared.event.Event.TheVariants.{Begin, End, Token}
 use Rattle.syntax.specs.declared.span.Span.{Span}
 use Rattle.refusal.specs.declared.refusal.Refusal.{Refusal}
 use Rattle.operators.specs.Levels.{among}
 use Rattle.grammar.specs.Words.{Word}
 use Rattle.grammar.specs.Extents.{visible, entries_in, entries_before}
-use Rattle.grammar.specs.Tests.{token_refusal, refusal_in, is_damaged, names}
+use Rattle.grammar.specs.Tests.{token_refusal, refusal_in, names}
 use Rattle.literal.specs.Texts.{text_of}
 use Rattle.grammar.specs.Causes.{Minus}
 use Rattle.grammar.proofs.Ends.{term_ends}
 use Rattle.reader.specs.declared.mark.Mark.{Mark}
 use Rattle.reader.specs.declared.mark.Mark.TheVariants as mark
 use Rattle.reader.specs.declared.reader.Reader.{Reader}
-use Rattle.reader.specs.Symbols.{Sym, spell, event, Fits, Ahead, Viable, Stuck, Short}
+use Rattle.reader.specs.Symbols.{Sym, event, Fits, Viable, Stuck, Short}
 use Rattle.reader.specs.Symbols.Sym.{one}
-use Rattle.reader.specs.States.{State, step, after, last_behind, opens_behind, Passes, Clears, NoMinus, Clear}
-use Rattle.reader.specs.Contract.{Conf, conf, state_of, Kept, Blame, Read, Fail, Stops, Fresh, Failed, Done, Parses, Shown, Took, Takes, tested, plain, settles, Behind, Finished}
+use Rattle.reader.specs.States.{State, step, last_behind, opens_behind, Passes, Clears, NoMinus, Clear}
+use Rattle.reader.specs.Contract.{Conf, conf, state_of, Kept, Blame, Read, Stops, Fresh, Failed, Parses, Shown, Took, tested, plain, settles, Behind, Finished}
 use Rattle.reader.proofs.Lists.{nil_cons, heads, tails, snocs, or_false}
-use Rattle.reader.proofs.Marks.{same_true}
 use Rattle.reader.proofs.Within.{Once}
 
 pub sample : (m : Mark) → Viable (one m) []
@@ -92,8 +91,8 @@ took m p p₁ p₂ e f same stops s k a l o passes =
     fresh : Fresh p₂
     fresh u d q =
         let st = counted_state p₁ p₂ e s k a l o in
-        let same-past : (state_of p₁).past ≡ u = (snocs (state_of p₁).past u e d (sym (ap (λ x. x.past) st) ∙ q)).0 in
-        errors_are ∙ ap (λ w. length (entries_before (length w) p₂.row.now)) same-past
+        let same_past : (state_of p₁).past ≡ u = (snocs (state_of p₁).past u e d (sym (ap (λ x. x.past) st) ∙ q)).0 in
+        errors_are ∙ ap (λ w. length (entries_before (length w) p₂.row.now)) same_past
 
 -- ---- what is tested of an event that was taken
 

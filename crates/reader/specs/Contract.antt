@@ -1,5 +1,5 @@
 -- What a reader's calls do.
-use Rattle.std.specs.Prelude.{◌≡◌, ℕ, ◌+◌, ◌<◌, ◌≤◌, Bool, true, false, cond, not, T, List, [], ◌∷◌, ◌++◌, length, take, drop, is_some, Some, None, Option, Result}
+use Rattle.std.specs.Prelude.{◌≡◌, ℕ, ◌+◌, ◌<◌, ◌≤◌, Bool, true, false, cond, not, T, List, [], ◌∷◌, ◌++◌, length, take, drop, is_some, Some, Option, Result}
 use Rattle.std.specs.Option as options
 use Rattle.std.specs.Result as results
 use Rattle.kinds.specs.Kinds.{same}
@@ -8,13 +8,13 @@ use Rattle.kinds.specs.declared.kind.SyntaxKind.TheVariants.{IDENT, PATTERN_IDEN
 use Rattle.syntax.specs.Events.{span_at}
 use Rattle.syntax.specs.Spans.{span_of}
 use Rattle.syntax.specs.declared.event.Event.{Event}
-use Rattle.syntax.specs.declared.event.Event.TheVariants.{Error, Begin, End, Token}
+use Rattle.syntax.specs.declared.event.Event.TheVariants.{Token}
 use Rattle.syntax.specs.declared.span.Span.{Span}
 use Rattle.refusal.specs.declared.refusal.Refusal.{Refusal}
 use Rattle.refusal.specs.declared.refusal.Refusal.TheVariants.{Damaged, BadSpan, OutOfPlace, TooDeep}
 use Rattle.operators.specs.Levels.{level_of, strength, among}
 use Rattle.grammar.specs.Words.{Word}
-use Rattle.grammar.specs.Tests.{is_damaged, token_refusal, names}
+use Rattle.grammar.specs.Tests.{is_damaged, token_refusal}
 use Rattle.grammar.specs.Causes.{Minus}
 use Rattle.grammar.specs.Extents.{visible, entries_in, entries_before}
 use Rattle.reader.specs.declared.mark.Mark.{Mark}

@@ -1,9 +1,8 @@
 -- Symbols of a grammar by their spelling, and what words begin with.
-use Rattle.std.specs.Prelude.{◌≡◌, Bool, ◌⊎◌, List, [], ◌∷◌, ◌++◌, ◌≢◌}
+use Rattle.std.specs.Prelude.{◌≡◌, ◌⊎◌, ◌∷◌, ◌++◌, ◌≢◌}
 use Rattle.std.proofs.Common.{inl, inr}
-use Rattle.kinds.specs.Kinds.{same}
 use Rattle.syntax.specs.declared.event.Event.{Event}
-use Rattle.syntax.specs.declared.event.Event.TheVariants.{Error, Begin, End, Token}
+use Rattle.syntax.specs.declared.event.Event.TheVariants.{Begin, End, Token}
 use Rattle.syntax.specs.declared.span.Span.{Span}
 use Rattle.grammar.specs.Words.{Word}
 use Rattle.reader.specs.declared.mark.Mark.{Mark}

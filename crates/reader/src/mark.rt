@@ -1,4 +1,4 @@
-ghost use Rattle.std.specs.Prelude.{if◌then◌else◌};
+ghost use Rattle.std.specs.Prelude.{MatchBool};
 ghost use Rattle.reader.specs.Symbols.{Fits};
 
 use kinds::SyntaxKind;
@@ -15,7 +15,7 @@ pub enum Mark {
 impl Mark {
     // Whether an event is so.
     pub fn fits(self, event: Event) -> bool
-        ensures { if result then Fits self event else (Fits self event → ⊥) }
+        ensures { MatchBool result (Fits self event) (Fits self event → ⊥) }
     {
         match self {
             Mark::Begin(kind) => match event {

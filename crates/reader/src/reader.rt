@@ -1,11 +1,10 @@
-ghost use Rattle.std.specs.Prelude.{◌≡◌, ◌+◌, ◌<◌, true, false, T, [], ◌∷◌, length, take as first_of};
+ghost use Rattle.std.specs.Prelude.{◌≡◌, ◌+◌, ◌<◌, true, false, [], ◌∷◌, length, take as first_of};
 ghost use Rattle.operators.specs.Levels.{among};
 ghost use Rattle.grammar.specs.Extents.{entries_in};
 ghost use Rattle.grammar.specs.Tests.{is_damaged, names};
 ghost use Rattle.reader.specs.States.{misplaced, is_past_depth, last_behind, opens_behind};
 ghost use Rattle.reader.specs.Symbols.Sym.{one};
 ghost use Rattle.reader.specs.Contract.{state_of, Kept, Peeked, Saw, Takes, There, Anywhere, Parses, Compared, Finished};
-ghost use Rattle.reader.specs.declared.mark.Mark.{Mark as MarkOf};
 ghost use Rattle.reader.specs.declared.mark.Mark.TheVariants.{Begin as BeginOf, End as EndOf, Token as TokenOf};
 
 use crate::mark::Mark;
@@ -73,7 +72,7 @@ impl<'a> Reader<'a> {
 
     // Counts the event, and goes past it.
     fn count(&mut self, event: Event)
-        requires event_value { is_past_depth (state_of self.old) event ≡ false }
+        requires shallow { is_past_depth (state_of self.old) event ≡ false }
         requires at_in_bounds { self.old.at < length self.old.row.now }
         ensures kept { Kept self.old self.new }
         ensures place { self.new.at ≡ self.old.at + 1 }

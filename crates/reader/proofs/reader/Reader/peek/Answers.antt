@@ -1,4 +1,4 @@
-use Rattle.std.proofs.Common.{◌≡◌, ap, ◌∙◌}
+use Rattle.std.proofs.Common.{◌∙◌}
 use Rattle.reader.proofs.Readers.{skipped, shown}
 use Rattle.reader.proofs.Rows.{seen_errors, end_rest, end_errors}
 use Rattle.reader.proofs.reader.Reader.peek.Goals as goal
@@ -10,13 +10,13 @@ loop-self-preserved c = (
       ∙ c.loop-self.invariant.1,
 )
 
-pub returns-in-default : goal.returns-in-default
-returns-in-default c =
+pub returns-in_default : goal.returns-in_default
+returns-in_default c =
     record {
       kept = c.loop-self.invariant.0;
       same = c.loop-self.invariant.1;
-      shown = shown c.loop-self.self _ c.loop-self-test.true c.in-default.not-Error;
-      stops = seen_errors c.loop-self.self.row.now c.loop-self.self.at _ c.loop-self-test.true c.in-default.not-Error;
+      shown = shown c.loop-self.self _ c.loop-self-test.true c.in_default.not-Error;
+      stops = seen_errors c.loop-self.self.row.now c.loop-self.self.at _ c.loop-self-test.true c.in_default.not-Error;
     }
 
 pub returns : goal.returns

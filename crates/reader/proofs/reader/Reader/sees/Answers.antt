@@ -1,4 +1,4 @@
-use Rattle.std.proofs.Common.{◌≡◌, sym, ap, ◌∙◌}
+use Rattle.std.proofs.Common.{sym, ap, ◌∙◌}
 use Rattle.reader.proofs.Readers.{told, told_end}
 use Rattle.reader.proofs.reader.Reader.sees.Goals as goal
 

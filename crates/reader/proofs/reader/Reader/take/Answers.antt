@@ -1,34 +1,33 @@
-use Rattle.std.proofs.Common.{◌≡◌, [], sym, refl, ◌∙◌}
-use Rattle.syntax.specs.Events.{span_at}
+use Rattle.std.proofs.Common.{[], sym, ◌∙◌}
 use Rattle.refusal.specs.declared.refusal.Refusal.TheVariants.{Damaged, BadSpan, OutOfPlace, TooDeep}
 use Rattle.reader.specs.Symbols.Sym.{one}
-use Rattle.reader.specs.Contract.{state_of, Blame}
+use Rattle.reader.specs.Contract.{Blame}
 use Rattle.reader.proofs.Takes.{sample, stuck_one, viable_one, short_one, kept_trans, refused_next, at_span, fit_span, took}
 use Rattle.reader.proofs.reader.Reader.take.Goals as goal
 
-pub returns-in-default : goal.returns-in-default
-returns-in-default c =
+pub returns-in_default : goal.returns-in_default
+returns-in_default c =
     record {
       kept = c.peek.ensures.kept;
-      outcome = refused_next (one c.args.mark) _ c.args.self.now c.peek.new.self [] c.peek.ensures.same c.peek.ensures.stops c.in-default.ensures.shown (sample c.args.mark) (Blame.over (short_one c.args.mark));
+      outcome = refused_next (one c.args.mark) _ c.args.self.now c.peek.new.self [] c.peek.ensures.same c.peek.ensures.stops c.in_default.ensures.shown (sample c.args.mark) (Blame.over (short_one c.args.mark));
     }
 
-pub returns-then-is-damaged : goal.returns-then-is-damaged
-returns-then-is-damaged c =
+pub returns-then-is_damaged : goal.returns-then-is_damaged
+returns-then-is_damaged c =
     record {
       kept = c.peek.ensures.kept;
       outcome =
           at_span (one c.args.mark) c.args.self.now c.peek.new.self Damaged _ _ c.span-span.ensures
-          (refused_next (one c.args.mark) _ c.args.self.now c.peek.new.self _ c.peek.ensures.same c.peek.ensures.stops c.in-Some.ensures.shown.front (sample c.args.mark) (Blame.damaged (sym c.if-is-damaged.ensures)));
+          (refused_next (one c.args.mark) _ c.args.self.now c.peek.new.self _ c.peek.ensures.same c.peek.ensures.stops c.in-Some.ensures.shown.front (sample c.args.mark) (Blame.damaged (sym c.if-is_damaged.ensures)));
     }
 
-pub returns-then-is-misplaced : goal.returns-then-is-misplaced
-returns-then-is-misplaced c =
+pub returns-then-is_misplaced : goal.returns-then-is_misplaced
+returns-then-is_misplaced c =
     record {
       kept = c.peek.ensures.kept;
       outcome =
           at_span (one c.args.mark) c.args.self.now c.peek.new.self BadSpan _ _ c.span-span.ensures
-          (refused_next (one c.args.mark) _ c.args.self.now c.peek.new.self _ c.peek.ensures.same c.peek.ensures.stops c.in-Some.ensures.shown.front (sample c.args.mark) (Blame.bad_span (sym c.if-is-damaged.ensures) (sym c.if-is-misplaced.ensures)));
+          (refused_next (one c.args.mark) _ c.args.self.now c.peek.new.self _ c.peek.ensures.same c.peek.ensures.stops c.in-Some.ensures.shown.front (sample c.args.mark) (Blame.bad_span (sym c.if-is_damaged.ensures) (sym c.if-is_misplaced.ensures)));
     }
 
 pub returns-then-not-fits : goal.returns-then-not-fits
@@ -37,16 +36,16 @@ returns-then-not-fits c =
       kept = c.peek.ensures.kept;
       outcome =
           at_span (one c.args.mark) c.args.self.now c.peek.new.self OutOfPlace _ _ c.span-span.ensures
-          (refused_next (one c.args.mark) _ c.args.self.now c.peek.new.self _ c.peek.ensures.same c.peek.ensures.stops c.in-Some.ensures.shown.front (sample c.args.mark) (Blame.out_of_place (sym c.if-is-damaged.ensures) (sym c.if-is-misplaced.ensures) (stuck_one c.args.mark c.in-Some.event c.if-not-fits.ensures)));
+          (refused_next (one c.args.mark) _ c.args.self.now c.peek.new.self _ c.peek.ensures.same c.peek.ensures.stops c.in-Some.ensures.shown.front (sample c.args.mark) (Blame.out_of_place (sym c.if-is_damaged.ensures) (sym c.if-is_misplaced.ensures) (stuck_one c.args.mark c.in-Some.event c.if-not-fits.ensures)));
     }
 
-pub returns-then-is-too-deep : goal.returns-then-is-too-deep
-returns-then-is-too-deep c =
+pub returns-then-is_too_deep : goal.returns-then-is_too_deep
+returns-then-is_too_deep c =
     record {
       kept = c.peek.ensures.kept;
       outcome =
           at_span (one c.args.mark) c.args.self.now c.peek.new.self TooDeep _ _ c.span-span.ensures
-          (refused_next (one c.args.mark) _ c.args.self.now c.peek.new.self _ c.peek.ensures.same c.peek.ensures.stops c.in-Some.ensures.shown.front (sample c.args.mark) (Blame.too_deep (sym c.if-is-damaged.ensures) (sym c.if-is-misplaced.ensures) (viable_one c.args.mark c.in-Some.event c.if-not-fits.ensures) (sym c.if-is-too-deep.ensures)));
+          (refused_next (one c.args.mark) _ c.args.self.now c.peek.new.self _ c.peek.ensures.same c.peek.ensures.stops c.in-Some.ensures.shown.front (sample c.args.mark) (Blame.too_deep (sym c.if-is_damaged.ensures) (sym c.if-is_misplaced.ensures) (viable_one c.args.mark c.in-Some.event c.if-not-fits.ensures) (sym c.if-is_too_deep.ensures)));
     }
 
 pub returns : goal.returns
@@ -58,6 +57,6 @@ returns c =
         f.0,
         c.span-span.ensures ∙ fit_span c.args.mark c.in-Some.event f,
         took c.args.mark c.args.self.now c.peek.new.self c.count.new.self c.in-Some.event f c.peek.ensures.same c.peek.ensures.stops c.in-Some.ensures.shown c.count.ensures.kept c.count.ensures.place c.count.ensures.last c.count.ensures.opens
-            (record { sound = sym c.if-is-damaged.ensures; placed = sym c.if-is-misplaced.ensures; shallow = sym c.if-is-too-deep.ensures }),
+            (record { sound = sym c.if-is_damaged.ensures; placed = sym c.if-is_misplaced.ensures; shallow = sym c.if-is_too_deep.ensures }),
       );
     }
