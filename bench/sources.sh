@@ -6,7 +6,7 @@ cd "$(dirname "$0")/.."
 events=${1:-crates/gathnomir/data/screening.events}
 rounds=${2:-20000}
 mkdir -p target/bench
-(cd crates/source_speed && rt run >/dev/null)
+(cd crates/source_speed && rt run >/dev/null 2>../../target/bench/build.log) || { cat target/bench/build.log; exit 1; }
 rustc -C opt-level=3 -o target/bench/plain bench/plain.rs
 for run in 1 2 3 4 5; do
     crates/source_speed/out/source_speed "$events" "$rounds"
