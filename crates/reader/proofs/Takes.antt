@@ -14,7 +14,7 @@ use Rattle.refusal.specs.declared.refusal.Refusal.{Refusal}
 use Rattle.operators.specs.Levels.{among}
 use Rattle.grammar.specs.Words.{Word}
 use Rattle.grammar.specs.Extents.{visible, entries_in, entries_before}
-use Rattle.grammar.specs.Tests.{token_refusal, refusal_in, names}
+use Rattle.grammar.specs.Tests.{last_end, opens, token_refusal, refusal_in, names}
 use Rattle.literal.specs.Texts.{text_of}
 use Rattle.grammar.specs.Causes.{Minus}
 use Rattle.grammar.proofs.Ends.{term_ends}
@@ -23,8 +23,8 @@ use Rattle.reader.specs.declared.mark.Mark.TheVariants as mark
 use Rattle.reader.specs.declared.reader.Reader.{Reader}
 use Rattle.reader.specs.Symbols.{Sym, event, Fits, Viable, Stuck, Short}
 use Rattle.reader.specs.Symbols.Sym.{one}
-use Rattle.reader.specs.States.{State, step, last_behind, opens_behind, Passes, Clears, NoMinus, Clear}
-use Rattle.reader.specs.Contract.{Conf, conf, state_of, Kept, Blame, Read, Stops, Fresh, Failed, Parses, Shown, Took, tested, plain, settles, Behind, Finished}
+use Rattle.reader.specs.States.{State, step, Passes, Clears, NoMinus, Clear}
+use Rattle.reader.specs.Contract.{Conf, conf, state_of, Kept, Blame, Read, Stops, Fresh, Failed, Parses, Shown, Untaken, Refused, Took, tested, plain, settles, Finished}
 use Rattle.reader.proofs.Lists.{nil_cons, heads, tails, snocs, or_false}
 use Rattle.reader.proofs.Within.{Once}
 
@@ -46,21 +46,48 @@ short_one m a k e = nil_cons (sym e)
 pub kept_trans : {p q r : Reader} → Kept p q → Kept q r → Kept p r
 kept_trans a b = record { row = b.row ∙ a.row; source = b.source ∙ a.source }
 
--- refused at the event that is shown next
-pub refused_next : {A : Type 0} (f : Sym A) (r : Refusal) (p p₁ : Reader) (v : Word) → conf p₁ ≡ conf p → Stops p₁ (state_of p₁).past → (conf p₁).rest ≡ v → Viable f [] → Blame f [] (state_of p₁) v r → Failed f r p p₁
-refused_next f r p p₁ v same stops e s b =
+-- what is not taken is no event that the symbol of the mark goes on with
+blamed : (m : Mark) (st : State) (v : Word) (r : Refusal) → Untaken (Fits m) st v r → Blame (one m) [] st v r
+blamed m st (e ∷ v) r (Untaken.damaged a) = Blame.damaged a
+blamed m st (e ∷ v) r (Untaken.bad_span a b) = Blame.bad_span a b
+blamed m st (e ∷ v) r (Untaken.out_of_place a b n) = Blame.out_of_place a b (stuck_one m e n)
+blamed m st (e ∷ v) r (Untaken.too_deep a b f d) = Blame.too_deep a b (viable_one m e f) d
+blamed m st [] r Untaken.over = Blame.over (short_one m)
+
+pub failed : (m : Mark) (r : Refusal) (p p' : Reader) → Refused (Fits m) p p' r → Failed (one m) r p p'
+failed m r p p' q =
     record {
       place = (state_of p).past;
-      fail = record { before = []; others = v; split = ap (λ x. x.rest) (sym same) ∙ e; behind = sym (append-nil (state_of p).past); viable = s; clear = tt; blame = subst (λ (x : Conf). Blame f [] x.state v r) same b };
-      stops = subst (λ (x : Conf). Stops p₁ x.state.past) same stops;
+      fail =
+          record {
+            before = [];
+            others = (conf p).rest;
+            split = refl;
+            behind = sym (append-nil (state_of p).past);
+            viable = sample m;
+            clear = tt;
+            blame = blamed m (state_of p) (conf p).rest r q.why;
+          };
+      stops = q.stops;
+    }
+
+-- refused at what is shown next
+pub refused : (Fit : Event → Type 0) (r : Refusal) (p p₁ : Reader) (v : Word) → conf p₁ ≡ conf p → Stops p₁ (state_of p₁).past → (conf p₁).rest ≡ v → Untaken Fit (state_of p₁) v r → Refused Fit p p₁ r
+refused Fit r p p₁ v same stops e b =
+    let here : Untaken Fit (state_of p₁) (conf p₁).rest r = subst (λ w. Untaken Fit (state_of p₁) w r) (sym e) b in
+    record {
+      same = same;
+      why = subst (λ (c : Conf). Untaken Fit c.state c.rest r) same here;
+      stops = subst (λ (c : Conf). Stops p₁ c.state.past) same stops;
     }
 
 -- its place was asked for before
-pub at_span : {A : Type 0} (f : Sym A) (p p₁ : Reader) (R : Span → Refusal) (s s' : Span) → s ≡ s' → Failed f (R s') p p₁ → Failed f (R s) p p₁
-at_span f p p₁ R s s' e = subst (λ x. Failed f (R x) p p₁) (sym e)
+pub refused_at : (Fit : Event → Type 0) (R : Span → Refusal) (p p₁ : Reader) (e : Event) (v : Word) (s : Span) → s ≡ span_at e → conf p₁ ≡ conf p → Stops p₁ (state_of p₁).past → (conf p₁).rest ≡ e ∷ v → Untaken Fit (state_of p₁) (e ∷ v) (R (span_at e)) → Refused Fit p p₁ (R s)
+refused_at Fit R p p₁ e v s at same stops front b =
+    subst (λ x. Refused Fit p p₁ (R x)) (sym at) (refused Fit (R (span_at e)) p p₁ (e ∷ v) same stops front b)
 
 -- the state behind an event that is counted
-counted_state : (p p' : Reader) (e : Event) → Shown p e → Kept p p' → p'.at ≡ p.at + 1 → p'.last ≡ last_behind p.last e → p'.opens ≡ opens_behind p.opens e → state_of p' ≡ step (state_of p) e
+counted_state : (p p' : Reader) (e : Event) → Shown p e → Kept p p' → p'.at ≡ p.at + 1 → p'.last ≡ last_end p.last (e ∷ []) → p'.opens ≡ opens p.opens (e ∷ []) → state_of p' ≡ step (state_of p) e
 counted_state p p' e s k a l o =
     let past : visible (take p'.at p'.row.now) ≡ (state_of p).past ++ (e ∷ []) =
     ap (λ n. visible (take n p'.row.now)) a ∙ ap (λ r. visible (take (p.at + 1) r.now)) k.row ∙ s.past in
@@ -68,7 +95,7 @@ counted_state p p' e s k a l o =
     λ i. record { source = source i; past = past i; last = l i; opens = o i }
 
 -- an event that fits and passes is taken
-pub took : (m : Mark) (p p₁ p₂ : Reader) (e : Event) (f : Fits m e) → conf p₁ ≡ conf p → Stops p₁ (state_of p₁).past → Shown p₁ e → Kept p₁ p₂ → p₂.at ≡ p₁.at + 1 → p₂.last ≡ last_behind p₁.last e → p₂.opens ≡ opens_behind p₁.opens e → Passes (state_of p₁) e → Took m f.0 p p₂
+pub took : (m : Mark) (p p₁ p₂ : Reader) (e : Event) (f : Fits m e) → conf p₁ ≡ conf p → Stops p₁ (state_of p₁).past → Shown p₁ e → Kept p₁ p₂ → p₂.at ≡ p₁.at + 1 → p₂.last ≡ last_end p₁.last (e ∷ []) → p₂.opens ≡ opens p₁.opens (e ∷ []) → Passes (state_of p₁) e → Took m f.0 p p₂
 took m p p₁ p₂ e f same stops s k a l o passes =
     let x = f.1 in
     let st = counted_state p₁ p₂ e s k a l o in
@@ -204,12 +231,13 @@ hands_on {f = f} {p = p} {p' = p'} k q (Err x) h = record { kept = k; outcome = 
 hands_on k q (Ok y) h = absurd h
 
 -- something stands behind a condition
-pub finished : {Y : Type 0} (p p₁ : Reader) (R : Span → Refusal) (e : Event) (v : Word) (s : Span) → s ≡ span_at e → Kept p p₁ → conf p₁ ≡ conf p → Stops p₁ (state_of p₁).past → (conf p₁).rest ≡ e ∷ v → Behind (state_of p₁) (e ∷ v) (R (span_at e)) → Finished {Y = Y} p p₁ (Err (R s))
-finished p p₁ R e v s at kept same stops front b =
-    let B : Conf → Span → Type 0 = λ c x. Behind c.state c.rest (R x) in
-    let C : Word → Type 0 = λ w. Behind (state_of p₁) w (R (span_at e)) in
+pub finished : {Y : Type 0} (R : Span → Refusal) (p p₁ : Reader) (e : Event) (v : Word) (s : Span) → s ≡ span_at e → Kept p p₁ → conf p₁ ≡ conf p → Stops p₁ (state_of p₁).past → (conf p₁).rest ≡ e ∷ v → Untaken (λ _. ⊥) (state_of p₁) (e ∷ v) (R (span_at e)) → Finished {Y = Y} p p₁ (Err (R s))
+finished R p p₁ e v s at kept same stops front b =
     record {
       kept = kept;
       same = same;
-      told = (subst (λ x. B (conf p) x) (sym at) (subst (λ c. B c (span_at e)) same (subst C (sym front) b)), subst (λ (x : Conf). Stops p₁ x.state.past) same stops);
+      told = (
+        λ n. nil_cons (sym n ∙ ap (λ (c : Conf). c.rest) (sym same) ∙ front),
+        refused_at (λ _. ⊥) R p p₁ e v s at same stops front b,
+      );
     }

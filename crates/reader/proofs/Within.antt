@@ -8,7 +8,8 @@ use Rattle.grammar.specs.Words.{Word}
 use Rattle.reader.specs.Symbols.{Sym, spell, Viable, Stuck, Short}
 use Rattle.reader.specs.Symbols.Sym.{seq, alt}
 use Rattle.reader.proofs.Lists.{nil_cons, heads, or_false}
-use Rattle.reader.specs.States.{State, misplaced, last_behind, step, after, NoMinus, Judged, Clear}
+use Rattle.grammar.specs.Tests.{last_end}
+use Rattle.reader.specs.States.{State, misplaced, step, after, NoMinus, Judged, Clear}
 use Rattle.reader.specs.Contract.{Conf, Blame, damaged, bad_span, out_of_place, too_deep, token, minus, over, Read, Fail}
 
 pub after-++ : (st : State) (u w : Word) → after st (u ++ w) ≡ after (after st u) w
@@ -284,7 +285,7 @@ last_grows d st (e ∷ w) c =
     let m = last_grows d (step st e) w c.2 in
     omega (arith, l, m)
   where
-    last_step : (st : State) (e : Event) → misplaced st e ≡ false → st.last ≤ last_behind st.last e
+    last_step : (st : State) (e : Event) → misplaced st e ≡ false → st.last ≤ last_end st.last (e ∷ [])
     last_step st (Error m s) p = omega arith
     last_step st (Begin k s) p = omega arith
     last_step st (End k s) p = omega arith

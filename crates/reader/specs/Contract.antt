@@ -1,5 +1,5 @@
 -- What a reader's calls do.
-use Rattle.std.specs.Prelude.{◌≡◌, ℕ, ◌+◌, ◌<◌, ◌≤◌, Bool, true, false, cond, not, T, List, [], ◌∷◌, ◌++◌, length, take, drop, is_some, Some, Option, Result}
+use Rattle.std.specs.Prelude.{◌≡◌, ◌≢◌, ℕ, ◌+◌, ◌<◌, ◌≤◌, Bool, true, false, cond, not, T, List, [], ◌∷◌, ◌++◌, length, take, drop, is_some, Some, Option, Result}
 use Rattle.std.specs.Option as options
 use Rattle.std.specs.Result as results
 use Rattle.kinds.specs.Kinds.{same}
@@ -21,7 +21,6 @@ use Rattle.reader.specs.declared.mark.Mark.{Mark}
 use Rattle.reader.specs.declared.mark.Mark.TheVariants as mark
 use Rattle.reader.specs.declared.reader.Reader.{Reader}
 use Rattle.reader.specs.Symbols.{Sym, spell, event, Fits, Ahead, Viable, Stuck, Short}
-use Rattle.reader.specs.Symbols.Sym.{one}
 use Rattle.reader.specs.States.{State, misplaced, is_past_depth, step, after, Passes, Clears, Clear}
 
 -- what is read, and what is left to read
@@ -94,6 +93,20 @@ pub record Parses {A Y : Type 0} (d : Bool) (f : Sym A) (Post : A → Y → Type
 
 -- ---- single events
 
+-- why the next event is not taken where one that fits is asked for: the tests are made in this order
+pub data Untaken (Fit : Event → Type 0) (st : State) : Word → Refusal → Type 0 where
+  damaged : {e : Event} {v : Word} → is_damaged e ≡ true → Untaken Fit st (e ∷ v) (Damaged (span_at e))
+  bad_span : {e : Event} {v : Word} → is_damaged e ≡ false → misplaced st e ≡ true → Untaken Fit st (e ∷ v) (BadSpan (span_at e))
+  out_of_place : {e : Event} {v : Word} → is_damaged e ≡ false → misplaced st e ≡ false → (Fit e → ⊥) → Untaken Fit st (e ∷ v) (OutOfPlace (span_at e))
+  too_deep : {e : Event} {v : Word} → is_damaged e ≡ false → misplaced st e ≡ false → Fit e → is_past_depth st e ≡ true → Untaken Fit st (e ∷ v) (TooDeep (span_at e))
+  over : Untaken Fit st [] (OutOfPlace (span_of 0 0))
+
+-- nothing is read, and why; the Error events in front of the event that is refused are passed over
+pub record Refused (Fit : Event → Type 0) (p p' : Reader) (r : Refusal) : Type 0 where
+  pub same : conf p' ≡ conf p
+  pub why : Untaken Fit (state_of p) (conf p).rest r
+  pub stops : Stops p' (state_of p).past
+
 -- an event that is shown: the next of the row
 pub record Shown (p : Reader) (e : Event) : Type 0 where
   pub less : p.at < length p.row.now
@@ -121,7 +134,7 @@ pub record Took (m : Mark) (s : Span) (p p' : Reader) : Type 0 where
 
 pub record Takes {Y : Type 0} (m : Mark) (At : Y → Span → Type 0) (p p' : Reader) (r : Result Y Refusal) : Type 0 where
   pub kept : Kept p p'
-  pub outcome : results.MatchResult r (λ y. (s : Span) × At y s × Took m s p p') (λ e. Failed (one m) e p p')
+  pub outcome : results.MatchResult r (λ y. (s : Span) × At y s × Took m s p p') (λ e. Refused (Fits m) p p' e)
 
 abbrev pub There : Span → Span → Type 0
 There y s = y ≡ s
@@ -161,13 +174,8 @@ pub record Compared (least : ℕ) (p p' : Reader) (r : Option (SyntaxKind × ℕ
   pub same : conf p' ≡ conf p
   pub told : options.MatchOption r (Weaker least (conf p).rest) (λ o. Operates least o.0 o.1 (conf p).rest)
 
--- what stands behind a condition
-pub data Behind (st : State) : Word → Refusal → Type 0 where
-  damaged : {e : Event} {v : Word} → is_damaged e ≡ true → Behind st (e ∷ v) (Damaged (span_at e))
-  bad_span : {e : Event} {v : Word} → is_damaged e ≡ false → misplaced st e ≡ true → Behind st (e ∷ v) (BadSpan (span_at e))
-  out_of_place : {e : Event} {v : Word} → is_damaged e ≡ false → misplaced st e ≡ false → Behind st (e ∷ v) (OutOfPlace (span_at e))
-
+-- nothing is left, or nothing fits
 pub record Finished {Y : Type 0} (p p' : Reader) (r : Result Y Refusal) : Type 0 where
   pub kept : Kept p p'
   pub same : conf p' ≡ conf p
-  pub told : results.MatchResult r (λ _. (conf p).rest ≡ []) (λ e. Behind (state_of p) (conf p).rest e × Stops p' (state_of p).past)
+  pub told : results.MatchResult r (λ _. (conf p).rest ≡ []) (λ e. ((conf p).rest ≢ []) × Refused (λ _. ⊥) p p' e)

@@ -1,10 +1,10 @@
 -- What is known of the events that are read, and what is tested of the next one.
-use Rattle.std.specs.Prelude.{◌≡◌, ℕ, ◌+◌, ◌-◌, Bool, false, cond, ◌||◌, List, [], ◌∷◌, ◌++◌, length, None, nat_le, nat_lt}
+use Rattle.std.specs.Prelude.{◌≡◌, ℕ, Bool, false, cond, ◌||◌, List, [], ◌∷◌, ◌++◌, length, None, nat_le, nat_lt}
 use Rattle.syntax.specs.declared.event.Event.{Event}
 use Rattle.syntax.specs.declared.event.Event.TheVariants.{Error, Begin, End, Token}
 use Rattle.refusal.specs.declared.refusal.Refusal.{Refusal}
 use Rattle.grammar.specs.Words.{Word}
-use Rattle.grammar.specs.Tests.{is_damaged, token_refusal}
+use Rattle.grammar.specs.Tests.{is_damaged, last_end, opens as opens_from, token_refusal}
 use Rattle.grammar.specs.Causes.{Minus}
 
 -- the source, the events read, where the last token among them ends and how many nodes they leave open
@@ -14,34 +14,24 @@ pub record State : Type 0 where
   pub last : ℕ
   pub opens : ℕ
 
+-- a token that is reversed, lies outside the source, or begins before the last one ends
 abbrev pub misplaced : State → Event → Bool
 misplaced st (Error m s) = false
 misplaced st (Begin k s) = false
 misplaced st (End k s) = false
 misplaced st (Token k s) = nat_lt s.end s.start || (nat_lt (length st.source) s.end || nat_lt s.start st.last)
 
+-- a Begin where 3,000 nodes are open
 abbrev pub is_past_depth : State → Event → Bool
 is_past_depth st (Error m s) = false
 is_past_depth st (Begin k s) = nat_le 3000 st.opens
 is_past_depth st (End k s) = false
 is_past_depth st (Token k s) = false
 
-abbrev pub last_behind : ℕ → Event → ℕ
-last_behind n (Error m s) = n
-last_behind n (Begin k s) = n
-last_behind n (End k s) = n
-last_behind n (Token k s) = s.end
-
-abbrev pub opens_behind : ℕ → Event → ℕ
-opens_behind n (Error m s) = n
-opens_behind n (Begin k s) = n + 1
-opens_behind n (End k s) = n - 1
-opens_behind n (Token k s) = n
-
 -- one event more, and a word more
 abbrev pub step : State → Event → State
 step st e =
-    record { source = st.source; past = st.past ++ (e ∷ []); last = last_behind st.last e; opens = opens_behind st.opens e }
+    record { source = st.source; past = st.past ++ (e ∷ []); last = last_end st.last (e ∷ []); opens = opens_from st.opens (e ∷ []) }
 
 abbrev pub after : State → Word → State
 after st [] = st

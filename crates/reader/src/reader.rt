@@ -1,8 +1,8 @@
 ghost use Rattle.std.specs.Prelude.{◌≡◌, ◌+◌, ◌<◌, true, false, [], ◌∷◌, length, take as first_of};
 ghost use Rattle.operators.specs.Levels.{among};
 ghost use Rattle.grammar.specs.Extents.{entries_in};
-ghost use Rattle.grammar.specs.Tests.{is_damaged, names};
-ghost use Rattle.reader.specs.States.{misplaced, is_past_depth, last_behind, opens_behind};
+ghost use Rattle.grammar.specs.Tests.{is_damaged, last_end, names, opens as opens_from};
+ghost use Rattle.reader.specs.States.{misplaced, is_past_depth};
 ghost use Rattle.reader.specs.Symbols.Sym.{one};
 ghost use Rattle.reader.specs.Contract.{state_of, Kept, Peeked, Saw, Takes, There, Anywhere, Parses, Compared, Finished};
 ghost use Rattle.reader.specs.declared.mark.Mark.TheVariants.{Begin as BeginOf, End as EndOf, Token as TokenOf};
@@ -76,8 +76,8 @@ impl<'a> Reader<'a> {
         requires at_in_bounds { self.old.at < length self.old.row.now }
         ensures kept { Kept self.old self.new }
         ensures place { self.new.at ≡ self.old.at + 1 }
-        ensures last { self.new.last ≡ last_behind self.old.last event }
-        ensures opens { self.new.opens ≡ opens_behind self.old.opens event }
+        ensures last { self.new.last ≡ last_end self.old.last (event ∷ []) }
+        ensures opens { self.new.opens ≡ opens_from self.old.opens (event ∷ []) }
     {
         match event {
             Event::Begin { .. } => self.opens += 1,

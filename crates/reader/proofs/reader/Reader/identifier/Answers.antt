@@ -1,10 +1,11 @@
 use Rattle.std.proofs.Common.{ap}
-use Rattle.reader.proofs.Takes.{name_refusal, token_read, token_refused, hands_on}
+use Rattle.reader.specs.declared.mark.Mark.TheVariants.{Token}
+use Rattle.reader.proofs.Takes.{name_refusal, token_read, token_refused, failed, hands_on}
 use Rattle.reader.proofs.reader.Reader.identifier.Goals as goal
 
 pub returns-in_err-span : goal.returns-in_err-span
 returns-in_err-span c =
-    hands_on c.take.ensures.kept c.in_err-span.ensures.outcome c.from_residual.result c.from_residual.ensures.1
+    hands_on c.take.ensures.kept (failed (Token c.args.kind) _ _ _ c.in_err-span.ensures.outcome) c.from_residual.result c.from_residual.ensures.1
 
 pub returns-in_err-get_source_str : goal.returns-in_err-get_source_str
 returns-in_err-get_source_str c =
