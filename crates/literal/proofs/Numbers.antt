@@ -203,4 +203,4 @@ refuses n name s h l =
     ∙ ap (λ b. cond b (Ok (Some (record { value = pattern n; unsigned = false; name = s }))) (Err (InvalidInteger s))) z
 
 pub negatives : NegativesFold
-negatives = record { zero_stays = λ name s. refl; folds = folds; refuses = refuses }
+negatives = record { negative_stays = λ k name s. refl; zero_stays = λ name s. refl; folds = folds; refuses = refuses }

@@ -1,5 +1,5 @@
 -- Suffixes of integers, and the parts of regular expressions.
-use Rattle.std.proofs.Common.{◌≡◌, ℕ, zero, suc, ◌+◌, ◌-◌, ◌^◌, Bool, true, false, cond, ◌||◌, eqb, leb, ◌⊎◌, List, [], ◌∷◌, ◌++◌, length, get_or, take, drop, Some, None, Ok, Err, IsAscii, Option, sym, refl, ap, ◌∙◌, inl, inr, ⊎_elim, arith, length-append, take-append-drop, drop-cons, eq-eqb, ne_eqb, eqb-true, le-leb, leb-true}
+use Rattle.std.proofs.Common.{◌≡◌, ℕ, zero, suc, ◌+◌, ◌-◌, ◌*◌, ◌^◌, Bool, true, false, cond, ◌||◌, eqb, leb, ◌⊎◌, List, [], ◌∷◌, ◌++◌, length, get_or, take, drop, Some, None, Ok, Err, IsAscii, Option, sym, refl, ap, ◌∙◌, inl, inr, ⊎_elim, arith, length-append, take-append-drop, drop-cons, eq-eqb, ne_eqb, eqb-true, le-leb, leb-true}
 use Rattle.std.specs.Option.{option_map}
 use Rattle.std.specs.Char.{len_utf8}
 use Rattle.std.specs.Str.{chars}
@@ -8,7 +8,7 @@ use Rattle.std.proofs.lemmas.Bool.{and_from, and_parts, and_left, and_right, cas
 use Rattle.std.proofs.lemmas.Str.{chars-IsAscii}
 use Rattle.syntax.specs.declared.span.Span.{Span}
 use Rattle.refusal.specs.declared.refusal.Refusal.TheVariants.{BadToken, InvalidModifier}
-use Rattle.literal.specs.Integers.{ends, before, factor}
+use Rattle.literal.specs.Integers.{ends, before, factor, plain_number, integer_number}
 use Rattle.literal.specs.Laws.{SizesMultiply, Modifiers, RegexpsReadBack}
 use Rattle.literal.specs.Regexps.{last_slash, closing, has, no_modifier, modifiers_of, regexp_with, as_regexp}
 use Rattle.literal.specs.Texts.{place_in, or_else, and_then}
@@ -86,8 +86,21 @@ plain t k m =
     no : (c : ℕ) → ((h : List ℕ) → t ≡ h ++ suffix c → ⊥) → ends c t ≡ false
     no c f = ⊎_elim (λ e. absurd (f (take (length t - 2) t) (rest_two t c e))) (λ e. e) (cases_Bool (ends c t))
 
+-- what stands before a suffix is multiplied by its factor
+multiplied : (t h : List ℕ) (f n : ℕ) → before t ≡ h → factor t ≡ f → plain_number h ≡ Some n → integer_number t ≡ Some (n * f)
+multiplied t h f n b m e =
+    ap (λ x. option_map (λ k. k * factor t) (plain_number x)) b ∙ ap (λ x. option_map (λ k. k * x) (plain_number h)) m
+    ∙ ap (λ o. option_map (λ k. k * f) o) e
+
 pub sizes : SizesMultiply
-sizes = record { kilo = kilo; mega = mega; plain = plain }
+sizes =
+    record {
+      kilo = kilo;
+      mega = mega;
+      kilo_number = λ h n e. multiplied (h ++ suffix 75) h 1024 n (kilo h).0 (kilo h).1 e;
+      mega_number = λ h n e. multiplied (h ++ suffix 77) h (2 ^ 20) n (mega h).0 (mega h).1 e;
+      plain = plain;
+    }
 
 -- ---- regular expressions
 
@@ -142,5 +155,9 @@ unclosed b body s e = ap (λ o. or_else o (λ n. and_then (modifiers_of s (n + 1
     both true = refl
     both false = refl
 
+unopened : (b : ℕ) (body : List ℕ) (s : Span) → (b ≡ 47 → ⊥) → as_regexp (b ∷ body) s ≡ Err (BadToken s)
+unopened b body s n =
+    ap (λ x. or_else (cond x (option_map suc (last_slash body)) None) (λ n. and_then (modifiers_of s (n + 1) (chars (drop (n + 1) (b ∷ body)))) (λ m. Ok (regexp_with (place_in s 1 n) m))) (Err (BadToken s))) (ne_eqb b 47 n)
+
 pub regexps : RegexpsReadBack
-regexps = record { value = value; unclosed = unclosed }
+regexps = record { value = value; empty = λ s. refl; unopened = unopened; unclosed = unclosed }

@@ -6,4 +6,4 @@ use Rattle.literal.specs.Utf8.{valid_from}
 
 pub examples : Examples
 unfolding valid_from reading_from
-examples = record { large = refl; less = refl; least = refl; below = refl; zero = refl; hexadecimal = refl; octal = refl; escape = λ from. refl; exact = refl; long = refl }
+examples = record { large = refl; less = refl; least = refl; below = refl; zero = refl; hexadecimal = refl; octal = refl; escape = λ from. refl; escapes = refl; exact = refl; long = refl }

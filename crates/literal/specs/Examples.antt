@@ -1,5 +1,5 @@
 -- Literals worked out.
-use Rattle.std.specs.Prelude.{◌≡◌, ℕ, ◌+◌, ◌-◌, ◌^◌, true, false, List, ◌∷◌, length, ℤ, pos, negsuc, Some, None, Ok, Err, codes, Option, Result}
+use Rattle.std.specs.Prelude.{◌≡◌, ℕ, ◌+◌, ◌-◌, ◌^◌, true, false, List, [], ◌∷◌, length, ℤ, pos, negsuc, Some, None, Ok, Err, codes, Option, Result}
 use Rattle.std.specs.Float.{binary64}
 use Rattle.std.specs.Float.Ieee.{round}
 use Rattle.syntax.specs.declared.span.Span.{Span}
@@ -9,7 +9,7 @@ use Rattle.refusal.specs.declared.refusal.Refusal.{Refusal}
 use Rattle.refusal.specs.declared.refusal.Refusal.TheVariants.{InvalidInteger, InvalidEscape, FloatTooLong}
 use Rattle.literal.specs.Floats.{float_of}
 use Rattle.literal.specs.Integers.{integer_of, negated}
-use Rattle.literal.specs.Strings.{string_of}
+use Rattle.literal.specs.Strings.{string_of, decoded_in}
 use Rattle.literal.specs.Texts.{and_then}
 
 -- a text that is a source of its own, and its span
@@ -35,5 +35,6 @@ pub record Examples : Type 0 where
   pub hexadecimal : integer (codes "0_x1F") ≡ Ok (signed (pos 31) 5)
   pub octal : integer (codes "0_o17") ≡ Err (InvalidInteger (span_of 0 5))
   pub escape : (from : ℕ) → string_of (codes "\"\\x4g\"") (span_of 0 6) from ≡ Err (InvalidEscape (span_of 1 3))
+  pub escapes : decoded_in (codes "\"\\\\\\n\\r\\t\\0\\\"\\x41\"") ≡ 92 ∷ 10 ∷ 13 ∷ 9 ∷ 0 ∷ 34 ∷ 65 ∷ []
   pub exact : float_of (codes "900719925474099.2") (span_of 0 17) ≡ Ok (round binary64 false (2 ^ 53) 10)
   pub long : float_of (codes "900719925474099.3") (span_of 0 17) ≡ Err (FloatTooLong (span_of 0 17))

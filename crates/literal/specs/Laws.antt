@@ -1,5 +1,5 @@
 -- What reading literals comes to, in the words of writing them.
-use Rattle.std.specs.Prelude.{◌≡◌, ℕ, ◌+◌, ◌/◌, ◌%◌, ◌^◌, ◌<◌, ◌≤◌, true, false, cond, ◌⊎◌, List, [], ◌∷◌, ◌++◌, map, length, pos, neg_ℤ, Some, None, Ok, Err, codes, ◌==◌, ◌≢◌}
+use Rattle.std.specs.Prelude.{◌≡◌, ℕ, ◌+◌, ◌*◌, ◌/◌, ◌%◌, ◌^◌, ◌<◌, ◌≤◌, true, false, cond, ◌⊎◌, List, [], ◌∷◌, ◌++◌, map, length, pos, negsuc, neg_ℤ, Some, None, Ok, Err, codes, ◌==◌, ◌≢◌}
 use Rattle.std.specs.Char.{digit_value, digit_char}
 use Rattle.std.specs.Int.Digits.{digits_of}
 use Rattle.syntax.specs.declared.span.Span.{Span}
@@ -7,7 +7,7 @@ use Rattle.refusal.specs.declared.refusal.Refusal.TheVariants.{BadToken, Invalid
 use Rattle.literal.specs.declared.string.StringValue.TheVariants.{Decoded}
 use Rattle.literal.specs.Digits.{number_of, are_digits}
 use Rattle.literal.specs.Floats.{as_float, rounded}
-use Rattle.literal.specs.Integers.{before, factor, as_integer, literal, negated}
+use Rattle.literal.specs.Integers.{before, factor, plain_number, integer_number, as_integer, literal, negated}
 use Rattle.literal.specs.Regexps.{has, regexp_with, as_regexp}
 use Rattle.literal.specs.Strings.{as_string, decoded_in}
 use Rattle.literal.specs.Texts.{place_in}
@@ -34,17 +34,21 @@ pub record IntegersReadBack : Type 0 where
   pub decimal : (n : ℕ) (ds t : List ℕ) → n < 2 ^ 64 → Writes 10 n ds → Spread ds t → ReadsAs t n
   -- behind `0x`, and underscores may stand inside it too
   pub hexadecimal : (n : ℕ) (ds t : List ℕ) → n < 2 ^ 64 → Writes 16 n ds → Spread (48 ∷ 120 ∷ ds) t → ReadsAs t n
-  -- behind `0o`, and none may stand inside it
+  -- behind `0o`, in which none stands
   pub octal : (n : ℕ) (ds t : List ℕ) → n < 2 ^ 64 → Writes 8 n ds → Spread ds t → ReadsAs (48 ∷ 111 ∷ t) n
 
 -- a suffix is cut off and multiplies; any other text stays whole
 pub record SizesMultiply : Type 0 where
   pub kilo : (h : List ℕ) → (before (h ++ codes "KB") ≡ h) × (factor (h ++ codes "KB") ≡ 1024)
   pub mega : (h : List ℕ) → (before (h ++ codes "MB") ≡ h) × (factor (h ++ codes "MB") ≡ 2 ^ 20)
+  pub kilo_number : (h : List ℕ) (n : ℕ) → plain_number h ≡ Some n → integer_number (h ++ codes "KB") ≡ Some (n * 1024)
+  pub mega_number : (h : List ℕ) (n : ℕ) → plain_number h ≡ Some n → integer_number (h ++ codes "MB") ≡ Some (n * 2 ^ 20)
   pub plain : (t : List ℕ) → ((h : List ℕ) → t ≢ h ++ codes "KB") → ((h : List ℕ) → t ≢ h ++ codes "MB") → (before t ≡ t) × (factor t ≡ 1)
 
--- a minus sign before the literal of a number: nothing to fold at 0, the negative literal up to 2 ^ 63, and refused above
+-- a minus sign before the literal of a number: nothing to fold at 0 or at a negative literal, the negative literal up to
+-- 2 ^ 63, and refused above
 pub record NegativesFold : Type 0 where
+  pub negative_stays : (k : ℕ) (name s : Span) → negated (record { value = negsuc k; unsigned = false; name = name }) s ≡ Ok None
   pub zero_stays : (name s : Span) → negated (literal 0 name) s ≡ Ok None
   pub folds : (n : ℕ) (name s : Span) → 0 < n → n ≤ 2 ^ 63 → negated (literal n name) s ≡ Ok (Some (record { value = neg_ℤ (pos n); unsigned = false; name = s }))
   pub refuses : (n : ℕ) (name s : Span) → 2 ^ 63 < n → n < 2 ^ 64 → negated (literal n name) s ≡ Err (InvalidInteger s)
@@ -78,6 +82,8 @@ Modifiers (c ∷ cs) = ((c ≡ 105) ⊎ (c ≡ 115)) × Modifiers cs
 -- a slash, any body, a slash and modifiers are that body with those modifiers; without a slash behind the body, or before it, refused
 pub record RegexpsReadBack : Type 0 where
   pub value : (body cs : List ℕ) (s : Span) → Modifiers cs → as_regexp (47 ∷ (body ++ 47 ∷ cs)) s ≡ Ok (regexp_with (place_in s 1 (1 + length body)) (has 105 cs, has 115 cs))
+  pub empty : (s : Span) → as_regexp [] s ≡ Err (BadToken s)
+  pub unopened : (b : ℕ) (body : List ℕ) (s : Span) → b ≢ 47 → as_regexp (b ∷ body) s ≡ Err (BadToken s)
   pub unclosed : (b : ℕ) (body : List ℕ) (s : Span) → has 47 body ≡ false → as_regexp (b ∷ body) s ≡ Err (BadToken s)
 
 -- ---- floats

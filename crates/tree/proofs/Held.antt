@@ -148,5 +148,8 @@ layout_holds_lem t =
     (within_whole (text_of t))
 
 pub reached_once_lem : ReachedOnce
-reached_once_lem t h =
-    tree_reached (lay_tree t 0 0 0) (text_of t) t 0 0 0 (size t - 1) (last_of t) (within_whole (lay_tree t 0 0 0)) h
+reached_once_lem =
+    record {
+      slots = λ t. length_tree t 0 0 0;
+      order = λ t h. tree_reached (lay_tree t 0 0 0) (text_of t) t 0 0 0 (size t - 1) (last_of t) (within_whole (lay_tree t 0 0 0)) h;
+    }

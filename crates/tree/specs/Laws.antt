@@ -16,10 +16,12 @@ abbrev pub OneTree : Type 0
 OneTree =
     (slots : List Slot) (text : List ℕ) (n : ℕ) (t u : Tree) → Holds slots text n t → Holds slots text n u → t ≡ u
 
--- each slot of a layout is reached from the root once: following the links comes by the numbers 0, 1, 2, .. in order
-abbrev pub ReachedOnce : Type 0
-ReachedOnce =
-    (t : Tree) (h : Holds (layout t) (text_of t) (size t - 1) t) → reached (layout t) (text_of t) (size t - 1) t h ≡ up_from 0 (size t)
+-- a layout has a slot for each node, and each is reached from the root once: following the links comes by the numbers 0, 1, 2, ..
+-- in order
+pub record ReachedOnce : Type 0 where
+  pub slots : (t : Tree) → length (layout t) ≡ size t
+  pub order :
+      (t : Tree) (h : Holds (layout t) (text_of t) (size t - 1) t) → reached (layout t) (text_of t) (size t - 1) t h ≡ up_from 0 (size t)
 
 -- a root that is placed completes its tree
 abbrev pub Lays : Slot → Memory → Memory → Type 0
