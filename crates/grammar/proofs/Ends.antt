@@ -1,6 +1,6 @@
 -- Where nodes end: how many Ends of a word have no Begin in it.
 use Rattle.std.proofs.Common.{◌≡◌, ℕ, ◌+◌, ◌-◌, ◌<◌, ◌≤◌, [], ◌∷◌, ◌++◌, length, sym, refl, ap, ◌∙◌, inl, inr, arith, length-append}
-use Rattle.std.proofs.lemmas.List.{append_assoc}
+use Rattle.std.proofs.lemmas.List.{append_assoc, append-nil}
 use Rattle.std.proofs.lemmas.Bool.Decides.{leb_tells}
 use Rattle.kinds.specs.declared.kind.SyntaxKind.{SyntaxKind}
 use Rattle.kinds.specs.declared.kind.SyntaxKind.TheVariants.{MINUS, TERM, BOOLEAN_EXPR}
@@ -113,6 +113,10 @@ whole_front (boolean_expr s0 x1 x2 s1) (c ∷ v) (a ∷ more) e n o =
     let all = closes (nests-BE (boolean_expr s0 x1 x2 s1) []) 0 (c ∷ v) (a ∷ more) e (omega arith) in
     let some = inside 0 BOOLEAN_EXPR s1 _ (joined (nests-B x1 _) (nests-Bs x2 _)) v (a ∷ more) (tails e) (omega arith) in
     absurd (omega (arith, all, some))
+
+-- a whole condition leaves no node open
+pub whole_closes : (b : BE) → opens 0 (spell-BE b []) ≡ 0
+whole_closes b = omega (arith, closes (nests-BE b []) 0 (spell-BE b []) [] (sym (append-nil (spell-BE b []))) (omega arith))
 
 -- a term ends with its End
 pub term_ends : (t : T) → (u : Word) × (s : Span) × (spell-T t [] ≡ u ++ (End TERM s ∷ []))

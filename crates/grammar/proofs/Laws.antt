@@ -5,13 +5,13 @@ use Rattle.syntax.specs.declared.event.Event.{Event}
 use Rattle.refusal.specs.Refusals.{facts_of}
 use Rattle.refusal.specs.declared.refusal.Refusal.{Refusal}
 use Rattle.grammar.specs.Words.{Word}
-use Rattle.grammar.specs.Tests.{is_damaged, is_misplaced}
+use Rattle.grammar.specs.Tests.{is_damaged, is_misplaced, opens}
 use Rattle.grammar.specs.Causes.{Why, damaged, bad_span, out_of_place, too_deep, token, minus}
 use Rattle.grammar.proofs.Least.{Least, least_token, least_minus}
 use Rattle.grammar.proofs.OneCause.{neither}
 use Rattle.grammar.specs.Conditions.{Begins}
 use Rattle.grammar.specs.Laws.{FrontsBegin, ClosedIsWhole, NeverOutOfPlace, WithoutCauseSpelled, SpelledWithoutCause}
-use Rattle.grammar.proofs.Ends.{whole_front}
+use Rattle.grammar.proofs.Ends.{whole_front, whole_closes}
 use Rattle.grammar.proofs.Soundness.{Sound, sound-BE, sound_at}
 
 pub fronts_begin : FrontsBegin
@@ -19,10 +19,13 @@ fronts_begin u w b =
     record { value = b.value; more = w ++ b.more; spelled = b.spelled ∙ append_assoc u w b.more }
 
 pub closed_is_whole : ClosedIsWhole
-closed_is_whole v b n o =
+closed_is_whole =
     record {
-      value = b.value;
-      spelled = sym (b.spelled ∙ ap (λ w. v ++ w) (whole_front b.value v b.more b.spelled n o) ∙ append-nil v);
+      whole = λ v b n o. record {
+        value = b.value;
+        spelled = sym (b.spelled ∙ ap (λ w. v ++ w) (whole_front b.value v b.more b.spelled n o) ∙ append-nil v);
+      };
+      closes = λ v s. ap (opens 0) s.spelled ∙ whole_closes s.value;
     }
 
 pub never_out_of_place : NeverOutOfPlace
@@ -63,6 +66,6 @@ snoc (a ∷ b ∷ v) n =
 pub without_cause_spelled : WithoutCauseSpelled
 without_cause_spelled source v none n o no_spelled =
     let s = snoc v n in
-    let no_begins : Begins (s.0 ++ (s.1 ∷ [])) → ⊥ = λ b. no_spelled (closed_is_whole v (subst Begins (sym s.2) b) n o) in
+    let no_begins : Begins (s.0 ++ (s.1 ∷ [])) → ⊥ = λ b. no_spelled (closed_is_whole.whole v (subst Begins (sym s.2) b) n o) in
     let c = last_cause source s.0 s.1 (is_damaged s.1) (is_misplaced (length source) s.0 s.1) refl refl no_begins in
     none (length s.0) c.0 (record { before = s.0; event = s.1; others = []; split = s.2; place = refl; why = c.1 })

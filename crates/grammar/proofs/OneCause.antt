@@ -91,6 +91,3 @@ first_same source v r q c d = by_order (leb_tells c.at d.at) (leb_tells d.at c.a
     by_order (inl l) (inl m) =
         let e : c.at ≡ d.at = omega (arith, l.1, m.1) in
         (cause_one source v d.at r q (subst (λ i. Cause source v i r) e c.cause) d.cause, e)
-
-pub first_one : (source : List ℕ) (v : Word) (r q : Refusal) → FirstCause source v r → FirstCause source v q → r ≡ q
-first_one source v r q c d = (first_same source v r q c d).0

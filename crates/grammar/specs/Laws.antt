@@ -19,20 +19,22 @@ OneReading = (x y : BE) (k l : Word) → spell-BE x k ≡ spell-BE y l → (x �
 abbrev pub Nesting : Type 0
 Nesting = (x : BE) (k : Word) → Nests (spell-BE x k) k
 
--- an event gives at most one cause, and a word has at most one first cause
+-- an event gives at most one cause, and a word has at most one first cause, at one place
 abbrev pub OneCause : Type 0
 OneCause = (source : List ℕ) (v : Word) (i : ℕ) (r q : Refusal) → Cause source v i r → Cause source v i q → r ≡ q
 
 abbrev pub OneFirstCause : Type 0
-OneFirstCause = (source : List ℕ) (v : Word) (r q : Refusal) → FirstCause source v r → FirstCause source v q → r ≡ q
+OneFirstCause =
+    (source : List ℕ) (v : Word) (r q : Refusal) (c : FirstCause source v r) (d : FirstCause source v q) → (r ≡ q) × (c.at ≡ d.at)
 
 -- a front of what begins a condition begins one
 abbrev pub FrontsBegin : Type 0
 FrontsBegin = (u w : Word) → Begins (u ++ w) → Begins u
 
--- what begins a condition and leaves no node open is the whole condition
-abbrev pub ClosedIsWhole : Type 0
-ClosedIsWhole = (v : Word) → Begins v → (v ≢ []) → opens 0 v ≡ 0 → Spelled v
+-- what begins a condition and leaves no node open is the whole condition, and a whole condition leaves none open
+pub record ClosedIsWhole : Type 0 where
+  pub whole : (v : Word) → Begins v → (v ≢ []) → opens 0 v ≡ 0 → Spelled v
+  pub closes : (v : Word) → Spelled v → opens 0 v ≡ 0
 
 -- no event of a condition is damaged or out of place
 abbrev pub NeverOutOfPlace : Type 0
