@@ -7,11 +7,13 @@ ghost use Rattle.gathnomir.specs.Demo.{with_name, inner_tree};
 
 use crate::failure::Failure;
 use outline::{Form, show};
-use std::alloc::{AllocError, Global};
 use syntax::Span;
-use tree::{DECODED, NodeKind, Placer, Slot};
+use tree::{DECODED, NodeKind, Placer, Slot, Tree};
 
 const SOURCE: &[u8] = b"a - (b - c) or \"x\\n\" contains $p";
+
+// The number of the condition's root.
+const ROOT: usize = 8;
 
 fn node(kind: NodeKind, start: u32, end: u32) -> Slot
     ensures { result ≡ slot_of (plain kind (span_of start end)) 0 0 0 }
@@ -23,9 +25,11 @@ fn node(kind: NodeKind, start: u32, end: u32) -> Slot
 fn named(kind: NodeKind, start: u32, end: u32) -> Slot
     ensures { result ≡ slot_of (with_name kind (span_of start end)) 0 0 0 }
 {
-    let mut slot = node(kind, start, end);
-    slot.name = slot.span;
-    slot
+    let slot = node(kind, start, end);
+    Slot {
+        name: slot.span,
+        ..slot
+    }
 }
 
 // Puts the root below a new node.
@@ -61,9 +65,11 @@ fn difference(placer: &mut Placer) {
 fn search(placer: &mut Placer) {
     placer.push(b'x');
     placer.push(b'\n');
-    placer.root = node(NodeKind::LiteralString, 15, 20);
-    placer.root.name = Span { start: 0, end: 2 };
-    placer.root.flags = DECODED;
+    placer.root = Slot {
+        name: Span { start: 0, end: 2 },
+        flags: DECODED,
+        ..node(NodeKind::LiteralString, 15, 20)
+    };
     raise(placer, node(NodeKind::Contains, 15, 32));
     let left = placer.root;
     let last = placer.used;
@@ -88,10 +94,6 @@ fn damage(slots: &mut [Slot; 12]) {
     slots[2].next = 13;
 }
 
-fn shown(heap: Global, form: Form, slots: &[Slot], text: &[u8]) -> Result<String, AllocError> {
-    show(heap, form, slots, 8, SOURCE, text)
-}
-
 // Prints the tree in both forms, and in one line with broken links.
 pub fn print(rt: &HostRuntime) -> Result<(), Failure> {
     let heap = rt.alloc();
@@ -109,9 +111,19 @@ pub fn print(rt: &HostRuntime) -> Result<(), Failure> {
     let used = placer.used;
     let written = placer.written;
     println!(rt; "{used} slots, {written} bytes of text, fits: {fits}")?;
-    rt.println(shown(heap, Form::Outline, &slots, &text)?)?;
-    rt.println(shown(heap, Form::Line, &slots, &text)?)?;
+    let tree = Tree {
+        slots: &slots,
+        source: SOURCE,
+        text: &text,
+    };
+    rt.println(show(heap, Form::Outline, tree, ROOT)?)?;
+    rt.println(show(heap, Form::Line, tree, ROOT)?)?;
     damage(&mut slots);
-    rt.println(shown(heap, Form::Line, &slots, &text)?)?;
+    let damaged = Tree {
+        slots: &slots,
+        source: SOURCE,
+        text: &text,
+    };
+    rt.println(show(heap, Form::Line, damaged, ROOT)?)?;
     Ok(())
 }

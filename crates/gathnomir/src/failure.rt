@@ -1,57 +1,39 @@
 use crate::listing::Flaw;
-use std::alloc::{AllocError, AllocFailed, Global};
-use std::{fmt, io};
+use std::alloc::{AllocError, Global};
+use std::io;
+use thiserror::Error;
 
 // Why the program stops with status 1.
-#[derive(Drop)]
+#[derive(Debug, Drop, Error)]
 pub enum Failure {
+    #[error("no such command")]
     Usage,
+    #[error("cannot {deed} {path}: {error}")]
     File {
         deed: &'static str,
         path: String,
         error: io::Error,
     },
+    #[error("line {number} of the listing: {flaw}")]
     Line {
         number: usize,
         flaw: Flaw,
     },
-    Io(io::Error),
+    #[error(transparent)]
+    Io(#[from] io::Error),
+    #[error("out of memory")]
+    Memory(#[from(alloc)] AllocError),
 }
 
 impl Failure {
-    pub fn file(heap: Global, deed: &'static str, path: &str, error: io::Error) -> Failure {
-        match String::from_str(heap, path) {
-            Ok(path) => Failure::File { deed, path, error },
-            Err(lack) => Failure::Io(io::Error::from(lack)),
-        }
-    }
-}
-
-impl From<io::Error> for Failure {
-    fn from(error: io::Error) -> Failure {
-        Failure::Io(error)
-    }
-}
-
-impl From<AllocError> for Failure {
-    fn from(lack: AllocError) -> Failure {
-        Failure::Io(io::Error::from(lack))
-    }
-}
-
-impl<T: Drop> From<AllocFailed<T>> for Failure {
-    fn from(_refused: AllocFailed<T>) -> Failure {
-        Failure::Io(io::Error::from(AllocError))
-    }
-}
-
-impl fmt::Display for Failure {
-    fn fmt<W: fmt::Write>(&self, f: &mut fmt::Formatter<W>) -> fmt::Result {
-        match self {
-            Failure::Usage => f.write_str("no such command"),
-            Failure::File { deed, path, error } => write!(f, "cannot {deed} {path}: {error}"),
-            Failure::Line { number, flaw } => write!(f, "line {number} of the listing: {flaw}"),
-            Failure::Io(error) => write!(f, "{error}"),
-        }
+    // A failed deed on a file; the lack of memory where the path cannot be kept.
+    pub fn file(
+        heap: Global,
+        deed: &'static str,
+        path: &str,
+        error: io::Error,
+    ) -> Result<Failure, Failure> {
+        let path = String::from_str(heap, path)?;
+        Ok(Failure::File { deed, path, error })
     }
 }

@@ -1,56 +1,41 @@
 use crate::failure::Failure;
+use kinds::UnknownKind;
 use source::{append, append_end};
 use std::alloc::Global;
-use std::fmt;
-use syntax::{Event, Span, SyntaxKind};
+use std::str::FromStr;
+use syntax::{Event, Span};
+use thiserror::Error;
 
 // What is wrong with a line of a listing.
-#[derive(Clone, Copy)]
+#[derive(Clone, Copy, Debug, PartialEq, Eq, Error)]
 pub enum Flaw {
+    #[error("it is not UTF-8")]
     NotText,
+    #[error("it begins with none of begin, end, token and error")]
     Event,
-    Kind,
+    #[error("it names {0}")]
+    Kind(#[from] UnknownKind),
+    #[error("the message is no number up to 65535")]
     Message,
+    #[error("a place is no number up to 4294967295")]
     Place,
+    #[error("it has fewer than four words")]
     Missing,
+    #[error("it has more than four words")]
     Surplus,
-}
-
-impl fmt::Display for Flaw {
-    fn fmt<W: fmt::Write>(&self, f: &mut fmt::Formatter<W>) -> fmt::Result {
-        f.write_str(match *self {
-            Flaw::NotText => "it is not UTF-8",
-            Flaw::Event => "it begins with none of begin, end, token and error",
-            Flaw::Kind => "it names no kind of node or token",
-            Flaw::Message => "the message is no number up to 65535",
-            Flaw::Place => "a place is no number up to 4294967295",
-            Flaw::Missing => "it has fewer than four words",
-            Flaw::Surplus => "it has more than four words",
-        })
-    }
 }
 
 // The packed form of the events that a listing names, and the end.
 pub fn pack(heap: Global, listing: &[u8]) -> Result<Vec<u8>, Failure> {
-    let text = match std::str::from_utf8(listing) {
-        Ok(text) => text,
-        Err(error) => {
-            let number = line_at(listing, error.valid_up_to());
-            return Err(Failure::Line {
-                number,
-                flaw: Flaw::NotText,
-            });
-        }
-    };
+    let text = std::str::from_utf8(listing).map_err(|error| Failure::Line {
+        number: line_at(listing, error.valid_up_to()),
+        flaw: Flaw::NotText,
+    })?;
     let mut bytes = Vec::new(heap);
-    for (place, line) in text.lines().enumerate() {
-        match event(line) {
-            Ok(Some(event)) => append(&mut bytes, event)?,
-            Ok(None) => {}
-            Err(flaw) => {
-                let number = place.saturating_add(1);
-                return Err(Failure::Line { number, flaw });
-            }
+    for (number, line) in (1..).zip(text.lines()) {
+        let event = event(line).map_err(|flaw| Failure::Line { number, flaw })?;
+        if let Some(event) = event {
+            append(&mut bytes, event)?;
         }
     }
     append_end(&mut bytes)?;
@@ -59,72 +44,85 @@ pub fn pack(heap: Global, listing: &[u8]) -> Result<Vec<u8>, Failure> {
 
 // The number of the line that holds the byte at a place, from 1.
 fn line_at(listing: &[u8], place: usize) -> usize {
-    let mut number: usize = 1;
-    for byte in listing.iter().take(place) {
-        if *byte == b'\n' {
-            number = number.saturating_add(1);
-        }
-    }
-    number
+    let before = listing.iter().take(place);
+    before
+        .filter(|byte| **byte == b'\n')
+        .count()
+        .saturating_add(1)
 }
 
 // The event of a line; none where the line is empty or a comment.
 fn event(line: &str) -> Result<Option<Event>, Flaw> {
     let mut words = line.split_whitespace();
-    let Some(first) = words.next() else {
+    let Some(first) = words.next().filter(|word| !word.starts_with('#')) else {
         return Ok(None);
     };
-    if first.starts_with('#') {
-        return Ok(None);
-    }
-    if !matches!(first, "begin" | "end" | "token" | "error") {
-        return Err(Flaw::Event);
-    }
+    let step: Step = first.parse()?;
     let (Some(what), Some(start), Some(end)) = (words.next(), words.next(), words.next()) else {
         return Err(Flaw::Missing);
     };
     if words.next().is_some() {
         return Err(Flaw::Surplus);
     }
-    let span = Span {
-        start: place(start)?,
-        end: place(end)?,
-    };
-    Ok(Some(named(first, what, span)?))
+    let start = number(start).ok_or(Flaw::Place)?;
+    let end = number(end).ok_or(Flaw::Place)?;
+    Ok(Some(step.event(what, Span { start, end })?))
 }
 
-fn named(first: &str, what: &str, span: Span) -> Result<Event, Flaw> {
-    if first == "error" {
-        let Some(message) = message(what) else {
-            return Err(Flaw::Message);
-        };
-        return Ok(Event::Error { message, span });
+// The first word of an event's line.
+#[derive(Clone, Copy)]
+enum Step {
+    Begin,
+    End,
+    Token,
+    Error,
+}
+
+impl FromStr for Step {
+    type Err = Flaw;
+
+    fn from_str(word: &str) -> Result<Step, Flaw> {
+        match word {
+            "begin" => Ok(Step::Begin),
+            "end" => Ok(Step::End),
+            "token" => Ok(Step::Token),
+            "error" => Ok(Step::Error),
+            _ => Err(Flaw::Event),
+        }
     }
-    let Some(kind) = SyntaxKind::from_name(what) else {
-        return Err(Flaw::Kind);
-    };
-    Ok(match first {
-        "begin" => Event::Begin { kind, span },
-        "end" => Event::End { kind, span },
-        _ => Event::Token { kind, span },
-    })
 }
 
-// `parse` takes a sign too.
-fn message(word: &str) -> Option<u16> {
+impl Step {
+    // The event whose second word is `what`.
+    fn event(self, what: &str, span: Span) -> Result<Event, Flaw> {
+        Ok(match self {
+            Step::Begin => Event::Begin {
+                kind: what.parse()?,
+                span,
+            },
+            Step::End => Event::End {
+                kind: what.parse()?,
+                span,
+            },
+            Step::Token => Event::Token {
+                kind: what.parse()?,
+                span,
+            },
+            Step::Error => Event::Error {
+                message: number(what).ok_or(Flaw::Message)?,
+                span,
+            },
+        })
+    }
+}
+
+// A number with no sign: `parse` takes one.
+fn number<N: FromStr>(word: &str) -> Option<N>
+where
+    N::Err: Drop,
+{
     if word.starts_with('+') {
-        None
-    } else {
-        word.parse::<u16>().ok()
+        return None;
     }
-}
-
-fn place(word: &str) -> Result<u32, Flaw> {
-    if word.starts_with('+') {
-        return Err(Flaw::Place);
-    }
-    match word.parse::<u32>() {
-        Ok(place) => Ok(place),
-        Err(_) => Err(Flaw::Place),
-    }
+    word.parse().ok()
 }

@@ -60,25 +60,18 @@ fn run(rt: &HostRuntime) -> Result<(), Failure> {
 }
 
 fn read(rt: &HostRuntime, path: &str) -> Result<Vec<u8>, Failure> {
-    match fs::read(rt, path) {
-        Ok(bytes) => Ok(bytes),
-        Err(error) => Err(Failure::file(rt.alloc(), "read", path, error)),
-    }
+    fs::read(rt, path).try_map_err(|error| Failure::file(rt.alloc(), "read", path, error))
 }
 
 fn write(rt: &HostRuntime, path: &str, bytes: &[u8]) -> Result<(), Failure> {
-    match fs::write(rt, path, bytes) {
-        Ok(()) => Ok(()),
-        Err(error) => Err(Failure::file(rt.alloc(), "write", path, error)),
-    }
+    fs::write(rt, path, bytes).try_map_err(|error| Failure::file(rt.alloc(), "write", path, error))
 }
 
 fn print_events(rt: &HostRuntime, source: &str, events: &str) -> Result<(), Failure> {
     let source = read(rt, source)?;
     let events = read(rt, events)?;
-    let mut out = BufWriter::new(rt.alloc(), rt.stdout())?;
-    record::print(rt.alloc(), &mut out, source.as_slice(), events.as_slice())?;
-    out.flush()?;
+    let out = BufWriter::new(rt.alloc(), rt.stdout())?;
+    record::print(rt.alloc(), out, source.as_slice(), events.as_slice())?;
     Ok(())
 }
 

@@ -1,21 +1,49 @@
-use crate::failure::Failure;
-use crate::shown::shown;
-use crate::value::value;
-use source::{Close, EventSource, Next, Packed};
-use std::alloc::{AllocError, Global};
+use crate::shown::Shown;
+use crate::value::Value;
+use source::{EventSource, Packed};
+use std::alloc::Global;
 use std::io;
 use std::io::Write;
 use syntax::{Event, Span, SyntaxKind};
 
-// What was seen of the events so far.
+// Prints each packed event, how they close, and totals.
+pub fn print<W: Write + Drop>(heap: Global, out: W, source: &[u8], bytes: &[u8]) -> io::Result<()> {
+    let mut packed = Packed::new(bytes);
+    let mut record = Record {
+        out,
+        source,
+        text: vec![in heap; 0; source.len()]?,
+        open: Vec::new(heap),
+        totals: Totals::default(),
+    };
+    while let Ok(Some(event)) = packed.take() {
+        record.event(event)?;
+    }
+    let at = bytes.len().saturating_sub(packed.left());
+    match packed.look() {
+        Ok(_) => writeln!(record.out, "closed: end at byte {at}")?,
+        Err(fault) => {
+            let number = fault.number();
+            writeln!(record.out, "closed: fault {number} {fault} at byte {at}")?;
+        }
+    }
+    record.totals()?;
+    record.out.flush()
+}
+
+// What was seen of the events so far, and where they are printed.
 #[derive(Drop)]
-struct Record<'a> {
+struct Record<'a, W> {
+    out: W,
     source: &'a [u8],
+    // Room for what a string stands for.
+    text: Vec<u8>,
+    // The nodes that are open, the innermost last.
     open: Vec<SyntaxKind>,
     totals: Totals,
 }
 
-#[derive(Clone, Copy)]
+#[derive(Clone, Copy, Default)]
 struct Totals {
     begins: usize,
     ends: usize,
@@ -25,65 +53,17 @@ struct Totals {
     reach: usize,
     gaps: usize,
     conditions: usize,
-    open_conditions: usize,
     deepest: usize,
     reversed: usize,
     outside: usize,
 }
 
-const NOTHING: Totals = Totals {
-    begins: 0,
-    ends: 0,
-    tokens: 0,
-    errors: 0,
-    trivia: 0,
-    reach: 0,
-    gaps: 0,
-    conditions: 0,
-    open_conditions: 0,
-    deepest: 0,
-    reversed: 0,
-    outside: 0,
-};
-
-// Prints each packed event, how they close, and totals.
-pub fn print<W: Write>(
-    heap: Global,
-    out: &mut W,
-    source: &[u8],
-    bytes: &[u8],
-) -> Result<(), Failure> {
-    let mut packed = Packed::new(bytes);
-    let mut record = Record {
-        source,
-        open: Vec::new(heap),
-        totals: NOTHING,
-    };
-    for number in 0..u64::MAX {
-        match packed.take() {
-            Next::Event(event) => {
-                write!(out, "{number:>6}  ")?;
-                record.event(heap, out, event)?;
-            }
-            Next::Closed(close) => {
-                let at = bytes.len().saturating_sub(packed.left());
-                print_close(out, close, at)?;
-                break;
-            }
-        }
-    }
-    record.print_totals(out)?;
-    Ok(())
-}
-
-fn print_close<W: Write>(out: &mut W, close: Close, at: usize) -> io::Result<()> {
-    match close {
-        Close::End => writeln!(out, "closed: end at byte {at}"),
-        Close::Fault(fault) => {
-            let number = fault.number();
-            let word = fault.word();
-            writeln!(out, "closed: fault {number} {word} at byte {at}")
-        }
+impl Totals {
+    fn events(&self) -> usize {
+        let nodes = self.begins.saturating_add(self.ends);
+        nodes
+            .saturating_add(self.tokens)
+            .saturating_add(self.errors)
     }
 }
 
@@ -91,120 +71,97 @@ fn more(count: &mut usize) {
     *count = count.saturating_add(1);
 }
 
-impl Record<'_> {
-    fn event<W: Write>(&mut self, heap: Global, out: &mut W, event: Event) -> Result<(), Failure> {
+impl<W: Write + Drop> Record<'_, W> {
+    fn event(&mut self, event: Event) -> io::Result<()> {
+        let number = self.totals.events();
+        write!(self.out, "{number:>6}  ")?;
         match event {
-            Event::Begin { kind, span } => self.begin(out, kind, span),
-            Event::End { kind, span } => self.end(out, kind, span),
-            Event::Token { kind, span } => self.token(heap, out, kind, span, event.is_trivia()),
-            Event::Error { message, span } => self.error(out, message, span),
+            Event::Begin { kind, span } => self.begin(kind, span),
+            Event::End { kind, span } => self.end(kind, span),
+            Event::Token { kind, span } => self.token(kind, span, event.is_trivia()),
+            Event::Error { message, span } => self.error(message, span),
         }
     }
 
-    fn begin<W: Write>(
-        &mut self,
-        out: &mut W,
-        kind: SyntaxKind,
-        span: Span,
-    ) -> Result<(), Failure> {
+    fn begin(&mut self, kind: SyntaxKind, span: Span) -> io::Result<()> {
         more(&mut self.totals.begins);
-        self.indent(out)?;
-        self.head(out, "begin", kind.name(), span)?;
-        self.note_span(out, span)?;
-        out.write_all(b"\n")?;
-        if kind == SyntaxKind::BOOLEAN_EXPR {
-            if self.totals.open_conditions == 0 {
-                more(&mut self.totals.conditions);
-            }
-            more(&mut self.totals.open_conditions);
+        self.indent()?;
+        let (range, note) = (span.range(), self.note(span));
+        writeln!(self.out, "begin {kind} {range:?}{note}")?;
+        if kind == SyntaxKind::BOOLEAN_EXPR && !self.open.contains(&kind) {
+            more(&mut self.totals.conditions);
         }
         self.open.push(kind)?;
         self.totals.deepest = self.totals.deepest.max(self.open.len());
         Ok(())
     }
 
-    fn end<W: Write>(&mut self, out: &mut W, kind: SyntaxKind, span: Span) -> Result<(), Failure> {
+    fn end(&mut self, kind: SyntaxKind, span: Span) -> io::Result<()> {
         more(&mut self.totals.ends);
         let closes = self.open.pop();
-        self.indent(out)?;
-        self.head(out, "end", kind.name(), span)?;
-        self.note_span(out, span)?;
+        self.indent()?;
+        let (range, note) = (span.range(), self.note(span));
+        write!(self.out, "end {kind} {range:?}{note}")?;
         match closes {
-            None => out.write_all(b" (nothing open)")?,
-            Some(open) => {
-                if open == SyntaxKind::BOOLEAN_EXPR {
-                    self.totals.open_conditions = self.totals.open_conditions.saturating_sub(1);
-                }
-                if !(open == kind) {
-                    let name = open.name();
-                    write!(out, " (open: {name})")?;
-                }
-            }
+            None => writeln!(self.out, " (nothing open)"),
+            Some(open) if open != kind => writeln!(self.out, " (open: {open})"),
+            Some(_) => writeln!(self.out),
         }
-        out.write_all(b"\n")?;
-        Ok(())
     }
 
-    fn token<W: Write>(
-        &mut self,
-        heap: Global,
-        out: &mut W,
-        kind: SyntaxKind,
-        span: Span,
-        trivia: bool,
-    ) -> Result<(), Failure> {
+    fn token(&mut self, kind: SyntaxKind, span: Span, trivia: bool) -> io::Result<()> {
         more(&mut self.totals.tokens);
-        self.indent(out)?;
-        self.head(out, "token", kind.name(), span)?;
-        if let Some(text) = self.source.get(span.start()..span.end()) {
-            let text = shown(heap, text)?;
-            let value = value(heap, self.source, kind, span)?;
-            write!(out, " {text}{value}")?;
+        self.indent()?;
+        write!(self.out, "token {kind} {:?}", span.range())?;
+        if let Some(text) = self.source.get(span.range()) {
+            write!(self.out, " {}", Shown(text))?;
+            self.value(kind, span)?;
             self.cover(span);
         }
         if trivia {
             more(&mut self.totals.trivia);
-            out.write_all(b" trivia")?;
+            self.out.write_all(b" trivia")?;
         }
-        self.note_span(out, span)?;
-        out.write_all(b"\n")?;
-        Ok(())
+        let note = self.note(span);
+        writeln!(self.out, "{note}")
     }
 
-    fn error<W: Write>(&mut self, out: &mut W, message: u16, span: Span) -> Result<(), Failure> {
+    // Prints what a name or a literal stands for, or why it is refused.
+    fn value(&mut self, kind: SyntaxKind, span: Span) -> io::Result<()> {
+        match Value::of(kind, self.source, span, self.text.as_mut_slice()) {
+            Ok(None) => Ok(()),
+            Ok(Some(value)) => write!(self.out, " = {value}"),
+            Err(refusal) => {
+                let (number, place) = (refusal.number(), refusal.place().range());
+                write!(self.out, " = refused {number} {refusal} at {place:?}")
+            }
+        }
+    }
+
+    fn error(&mut self, message: u16, span: Span) -> io::Result<()> {
         more(&mut self.totals.errors);
-        self.indent(out)?;
-        let start = span.start;
-        let end = span.end;
-        write!(out, "error {message} {start}..{end}")?;
-        self.note_span(out, span)?;
-        out.write_all(b"\n")?;
-        Ok(())
+        self.indent()?;
+        let (range, note) = (span.range(), self.note(span));
+        writeln!(self.out, "error {message} {range:?}{note}")
     }
 
-    fn indent<W: Write>(&self, out: &mut W) -> io::Result<()> {
-        for _ in 0..self.open.len() {
-            out.write_all(b"  ")?;
+    fn indent(&mut self) -> io::Result<()> {
+        for _ in &self.open {
+            self.out.write_all(b"  ")?;
         }
         Ok(())
     }
 
-    fn head<W: Write>(&self, out: &mut W, word: &str, name: &str, span: Span) -> io::Result<()> {
-        let start = span.start;
-        let end = span.end;
-        write!(out, "{word} {name} {start}..{end}")
-    }
-
-    // Says where a span does not lie within the source.
-    fn note_span<W: Write>(&mut self, out: &mut W, span: Span) -> io::Result<()> {
+    // Counts a span that does not lie within the source, and says so.
+    fn note(&mut self, span: Span) -> &'static str {
         if span.end < span.start {
             more(&mut self.totals.reversed);
-            out.write_all(b" (reversed)")
+            " (reversed)"
         } else if span.end() > self.source.len() {
             more(&mut self.totals.outside);
-            out.write_all(b" (outside the source)")
+            " (outside the source)"
         } else {
-            Ok(())
+            ""
         }
     }
 
@@ -215,7 +172,7 @@ impl Record<'_> {
         self.totals.reach = self.totals.reach.max(span.end());
     }
 
-    fn print_totals<W: Write>(&self, out: &mut W) -> io::Result<()> {
+    fn totals(&mut self) -> io::Result<()> {
         let Totals {
             begins,
             ends,
@@ -228,30 +185,26 @@ impl Record<'_> {
             deepest,
             reversed,
             outside,
-            ..
         } = self.totals;
-        let events = begins
-            .saturating_add(ends)
-            .saturating_add(tokens)
-            .saturating_add(errors);
+        let events = self.totals.events();
         let other = tokens.saturating_sub(trivia);
         let length = self.source.len();
         let gaps = gaps.saturating_add(length.saturating_sub(reach));
         let open = self.open.len();
         writeln!(
-            out,
+            self.out,
             "events: {events} ({begins} begin, {ends} end, {tokens} token, {errors} error)"
         )?;
         writeln!(
-            out,
+            self.out,
             "tokens: {trivia} trivia, {other} other; gaps {gaps} bytes of {length}"
         )?;
         writeln!(
-            out,
+            self.out,
             "nodes: {conditions} conditions, {deepest} deepest, {open} open at the close"
         )?;
         writeln!(
-            out,
+            self.out,
             "spans: {reversed} reversed, {outside} outside the source"
         )
     }

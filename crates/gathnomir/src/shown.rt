@@ -1,29 +1,26 @@
-use std::alloc::{AllocError, Global};
+use std::fmt;
 
 const SHOWN: usize = 40;
 
 // Bytes of the source as text on one line: what cannot be printed behind a backslash, and at most 40 of them.
-pub fn shown(heap: Global, bytes: &[u8]) -> Result<String, AllocError> {
-    let mut text = String::from_str(heap, "\"")?;
-    for byte in bytes.iter().take(SHOWN) {
-        escape(heap, &mut text, *byte)?;
-    }
-    text.push('"')?;
-    if bytes.len() > SHOWN {
-        let length = bytes.len();
-        text.push_str(format!(in heap; " .. {length} bytes")?.as_str())?;
-    }
-    Ok(text)
-}
+#[derive(Clone, Copy)]
+pub struct Shown<'a>(pub &'a [u8]);
 
-fn escape(heap: Global, text: &mut String, byte: u8) -> Result<(), AllocError> {
-    match byte {
-        b'\n' => text.push_str("\\n"),
-        b'\r' => text.push_str("\\r"),
-        b'\t' => text.push_str("\\t"),
-        b'"' => text.push_str("\\\""),
-        b'\\' => text.push_str("\\\\"),
-        b' '..=b'~' => text.push(char::from(byte)),
-        _ => text.push_str(format!(in heap; "\\x{byte:02x}")?.as_str()),
+impl fmt::Display for Shown<'_> {
+    fn fmt<W: fmt::Write>(&self, f: &mut fmt::Formatter<W>) -> fmt::Result {
+        f.write_str("\"")?;
+        for byte in self.0.iter().take(SHOWN) {
+            match byte {
+                // the library escapes this quote too
+                b'\'' => f.write_str("'")?,
+                _ => write!(f, "{}", byte.escape_ascii())?,
+            }
+        }
+        f.write_str("\"")?;
+        let length = self.0.len();
+        if length > SHOWN {
+            write!(f, " .. {length} bytes")?;
+        }
+        Ok(())
     }
 }

@@ -1,97 +1,82 @@
-use crate::shown::shown;
+use crate::shown::Shown;
+use lent::Lent;
 use literal::{
-    StringValue, float_lit, get_source, get_source_str, integer_lit, regexp_lit, string_lit,
+    Integer, Regexp, StringValue, float_lit, get_source, get_source_str, integer_lit, regexp_lit,
+    string_lit,
 };
 use refusal::Refusal;
-use std::alloc::{AllocError, Global};
+use std::fmt;
 use syntax::{Span, SyntaxKind};
 
-// What a name or a literal stands for, or why it is refused; nothing for other tokens.
-pub fn value(
-    heap: Global,
-    source: &[u8],
-    kind: SyntaxKind,
-    span: Span,
-) -> Result<String, AllocError> {
-    let told = match kind {
-        SyntaxKind::IDENT
-        | SyntaxKind::PATTERN_IDENT
-        | SyntaxKind::PATTERN_COUNT
-        | SyntaxKind::PATTERN_OFFSET
-        | SyntaxKind::PATTERN_LENGTH => name(heap, source, span)?,
-        SyntaxKind::INTEGER_LIT => integer(heap, source, span)?,
-        SyntaxKind::FLOAT_LIT => float(heap, source, span)?,
-        SyntaxKind::STRING_LIT => string(heap, source, span)?,
-        SyntaxKind::REGEXP => regexp(heap, source, span)?,
-        _ => return Ok(String::new(heap)),
+// What a name or a literal stands for.
+#[derive(Clone, Copy)]
+pub enum Value<'a> {
+    Name,
+    Integer(Integer),
+    Float(f64),
+    String(&'a [u8]),
+    Regexp(Regexp, &'a [u8]),
+}
+
+impl<'a> Value<'a> {
+    // The value of a token of a kind; none where it is no name and no literal. A string's is put into `text` where it has escapes.
+    pub fn of(
+        kind: SyntaxKind,
+        source: &'a [u8],
+        span: Span,
+        text: &'a mut [u8],
+    ) -> Result<Option<Value<'a>>, Refusal> {
+        Ok(Some(match kind {
+            SyntaxKind::IDENT
+            | SyntaxKind::PATTERN_IDENT
+            | SyntaxKind::PATTERN_COUNT
+            | SyntaxKind::PATTERN_OFFSET
+            | SyntaxKind::PATTERN_LENGTH => {
+                get_source_str(source, span)?;
+                Value::Name
+            }
+            SyntaxKind::INTEGER_LIT => Value::Integer(integer_lit(source, span)?),
+            SyntaxKind::FLOAT_LIT => Value::Float(float_lit(source, span)?),
+            SyntaxKind::STRING_LIT => Value::String(string(source, span, text)?),
+            SyntaxKind::REGEXP => {
+                let regexp = regexp_lit(source, span)?;
+                Value::Regexp(regexp, get_source(source, regexp.body))
+            }
+            _ => return Ok(None),
+        }))
+    }
+}
+
+fn string<'a>(source: &'a [u8], span: Span, text: &'a mut [u8]) -> Result<&'a [u8], Refusal> {
+    let mut lent = Lent {
+        items: &mut *text,
+        used: 0,
     };
-    match told {
-        Ok(text) => Ok(text),
-        Err(refusal) => refused(heap, refusal),
-    }
+    Ok(match string_lit(source, span, &mut lent)? {
+        StringValue::Source(part) => get_source(source, part),
+        StringValue::Decoded { len, .. } => text.get(..len).unwrap_or(&[]),
+    })
 }
 
-type Told = Result<Result<String, Refusal>, AllocError>;
-
-fn name(heap: Global, source: &[u8], span: Span) -> Told {
-    match get_source_str(source, span) {
-        Ok(_) => Ok(Ok(String::from_str(heap, " = name")?)),
-        Err(refusal) => Ok(Err(refusal)),
-    }
-}
-
-fn integer(heap: Global, source: &[u8], span: Span) -> Told {
-    match integer_lit(source, span) {
-        Ok(integer) if integer.unsigned => {
-            let value = integer.value.cast_unsigned();
-            Ok(Ok(format!(in heap; " = unsigned integer {value}")?))
+impl fmt::Display for Value<'_> {
+    fn fmt<W: fmt::Write>(&self, f: &mut fmt::Formatter<W>) -> fmt::Result {
+        match self {
+            Value::Name => f.write_str("name"),
+            Value::Integer(integer) if integer.unsigned => {
+                write!(f, "unsigned integer {}", integer.value.cast_unsigned())
+            }
+            Value::Integer(integer) => write!(f, "integer {}", integer.value),
+            Value::Float(value) => write!(f, "float {value}"),
+            Value::String(bytes) => write!(f, "string {}", Shown(bytes)),
+            Value::Regexp(regexp, body) => {
+                let i = if regexp.case_insensitive { " i" } else { "" };
+                let s = if regexp.dot_matches_new_line {
+                    " s"
+                } else {
+                    ""
+                };
+                write!(f, "regexp {}{i}{s}", Shown(body))
+            }
         }
-        Ok(integer) => {
-            let value = integer.value;
-            Ok(Ok(format!(in heap; " = integer {value}")?))
-        }
-        Err(refusal) => Ok(Err(refusal)),
     }
-}
-
-fn float(heap: Global, source: &[u8], span: Span) -> Told {
-    match float_lit(source, span) {
-        Ok(value) => Ok(Ok(format!(in heap; " = float {value}")?)),
-        Err(refusal) => Ok(Err(refusal)),
-    }
-}
-
-fn string(heap: Global, source: &[u8], span: Span) -> Told {
-    let mut text: Vec<u8> = vec![in heap; 0; span.len()]?;
-    let bytes = match string_lit(source, span, text.as_mut_slice(), 0) {
-        Ok(StringValue::Source(part)) => shown(heap, get_source(source, part))?,
-        Ok(StringValue::Decoded { len, .. }) => shown(heap, text.get(0..len).unwrap_or(&[]))?,
-        Err(refusal) => return Ok(Err(refusal)),
-    };
-    Ok(Ok(format!(in heap; " = string {bytes}")?))
-}
-
-fn regexp(heap: Global, source: &[u8], span: Span) -> Told {
-    match regexp_lit(source, span) {
-        Ok(regexp) => {
-            let body = shown(heap, get_source(source, regexp.body))?;
-            let i = if regexp.case_insensitive { " i" } else { "" };
-            let s = if regexp.dot_matches_new_line {
-                " s"
-            } else {
-                ""
-            };
-            Ok(Ok(format!(in heap; " = regexp {body}{i}{s}")?))
-        }
-        Err(refusal) => Ok(Err(refusal)),
-    }
-}
-
-fn refused(heap: Global, refusal: Refusal) -> Result<String, AllocError> {
-    let number = refusal.number();
-    let word = refusal.word();
-    let place = refusal.place();
-    let start = place.start;
-    let end = place.end;
-    format!(in heap; " = refused {number} {word} at {start}..{end}")
 }

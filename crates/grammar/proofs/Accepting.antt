@@ -2,7 +2,7 @@
 use Rattle.std.proofs.Common.{◌≡◌, ℕ, ◌-◌, ◌<◌, ◌≤◌, Bool, true, false, leb, ◌⊎◌, List, length, None, sym, refl, ap, ◌∙◌, subst, inl, inr, arith, leb-true}
 use Rattle.std.proofs.lemmas.Bool.Decides.{leb_tells}
 use Rattle.syntax.specs.declared.event.Event.{Event}
-use Rattle.source.specs.declared.close.Close.{Close}
+use Rattle.source.specs.Meaning.{Close}
 use Rattle.refusal.specs.Refusals.{facts_of}
 use Rattle.refusal.specs.declared.refusal.Refusal.{Refusal}
 use Rattle.kinds.proofs.Inverse.{and_both}
@@ -25,8 +25,8 @@ use Rattle.grammar.proofs.Laws.{spelled_without_cause}
 
 closed_no_fault : (e : Ending) (c : Close) → is_closed e ≡ true → fault_at e c ≡ None
 closed_no_fault closed c h = refl
-closed_no_fault boundary c h = let z : ◌≡◌ {A = ℕ} 0 1 = cc in absurd (omega arith)
-closed_no_fault close c h = let z : ◌≡◌ {A = ℕ} 0 1 = cc in absurd (omega arith)
+closed_no_fault boundary c h = cc
+closed_no_fault close c h = cc
 
 no_cause : (source : List ℕ) (es : List Event) (n : Lent) (t : Tree) → Sound source es → Within source es n t → NoCause source (word_of es)
 no_cause source es n t s w =
@@ -44,9 +44,9 @@ accepts source es c n s w =
 
 -- what an accepted outcome tells
 pub only_judged : {source : List ℕ} {row : List Event} {w : Bool} {n : Lent} {o : Outcome} {l : List Entry} → Judged source row w n o l → (t : Tree) → o ≡ accepted t → NoCause source (visible row) × (w ≡ true) × (s : Spelled (visible row)) × (t ≡ tree-BE source s.value) × (fits n t ≡ true)
-only_judged (caused c) t e = let z : ◌≡◌ {A = ℕ} 0 1 = cc in absurd (omega arith)
-only_judged (over k w) t e = let z : ◌≡◌ {A = ℕ} 0 1 = cc in absurd (omega arith)
-only_judged (full k w s f) t e = let z : ◌≡◌ {A = ℕ} 0 1 = cc in absurd (omega arith)
+only_judged (caused c) t e = cc
+only_judged (over k w) t e = cc
+only_judged (full k w s f) t e = cc
 only_judged {n = n} (read k w s f) t e =
     let same = tree_eq e in (k, w, s, sym same, ap (λ (x : Tree). fits n x) (sym same) ∙ f)
   where
@@ -54,9 +54,9 @@ only_judged {n = n} (read k w s f) t e =
     tree_eq h = cc
 
 pub only_comes : {source : List ℕ} {es : List Event} {c : Close} {n : Lent} {o : Outcome} {l : List Entry} → Comes source es c n o l → (t : Tree) → o ≡ accepted t → (s : Sound source es) × Within source es n t × (t ≡ tree-BE source s.spelled.value)
-only_comes (none_begins a) t e = let z : ◌≡◌ {A = ℕ} 0 1 = cc in absurd (omega arith)
-only_comes (in_fault a f) t e = let z : ◌≡◌ {A = ℕ} 0 1 = cc in absurd (omega arith)
-only_comes (too_long a f h) t e = let z : ◌≡◌ {A = ℕ} 0 1 = cc in absurd (omega arith)
+only_comes (none_begins a) t e = cc
+only_comes (in_fault a f) t e = cc
+only_comes (too_long a f h) t e = cc
 only_comes (judged a f h j) t e =
     let k = only_judged j t e in (
       record { begins = a; closes = k.1; spelled = k.2; decodes = λ i r c x y. k.0 i r c },

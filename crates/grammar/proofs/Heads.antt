@@ -1,4 +1,4 @@
-use Rattle.std.proofs.Common.{◌≡◌, ℕ, Bool, true, false, not, ◌||◌, T, eqb, ◌∷◌, is_some, refl, ap, ◌∙◌, arith, eq-eqb}
+use Rattle.std.proofs.Common.{◌≡◌, ℕ, Bool, true, false, not, ◌||◌, T, eqb, ◌∷◌, is_some, refl, ap, ◌∙◌, eq-eqb}
 use mathlib.Core.Path.{path_j}
 use Rattle.operators.specs.Levels.{level_of}
 use Rattle.syntax.specs.declared.span.Span.{Span}
@@ -57,7 +57,7 @@ abbrev differ : Event → Event → Bool
 differ a b = not (eqb (case_of a) (case_of b)) || not (eqb (kind_in a) (kind_in b))
 
 apart_by : {P : Type 0} (b : Bool) → b ≡ false → T b → P
-apart_by true e t = let z : ◌≡◌ {A = ℕ} 0 1 = cc in absurd (omega arith)
+apart_by true e t = cc
 apart_by false e t = absurd t
 
 same_not : (a b : Event) → a ≡ b → differ a b ≡ false

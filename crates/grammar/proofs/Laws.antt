@@ -1,5 +1,5 @@
 -- The laws of conditions, proved.
-use Rattle.std.proofs.Common.{◌≡◌, ℕ, ◌≤◌, Bool, true, false, List, [], ◌∷◌, ◌++◌, length, sym, refl, ap, ◌∙◌, subst, arith, lit≤}
+use Rattle.std.proofs.Common.{◌≡◌, ℕ, ◌≤◌, Bool, true, false, List, [], ◌∷◌, ◌++◌, length, sym, refl, ap, ◌∙◌, subst, lit≤}
 use Rattle.std.proofs.lemmas.List.{append_assoc, append-nil}
 use Rattle.syntax.specs.declared.event.Event.{Event}
 use Rattle.refusal.specs.Refusals.{facts_of}
@@ -61,7 +61,7 @@ snoc (a ∷ b ∷ v) n =
     let s = snoc (b ∷ v) (λ e. absurd (not_nil e)) in (a ∷ s.0, s.1, ap (λ w. a ∷ w) s.2)
   where
     not_nil : ◌≡◌ {A = Word} (b ∷ v) [] → ⊥
-    not_nil e = let z : ◌≡◌ {A = ℕ} 0 1 = cc in omega arith
+    not_nil e = cc
 
 pub without_cause_spelled : WithoutCauseSpelled
 without_cause_spelled source v none n o no_spelled =

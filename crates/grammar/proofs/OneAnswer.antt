@@ -1,10 +1,10 @@
 -- A condition has at most one answer.
 use Rattle.std.proofs.Common.{◌≡◌, ℕ, Bool, List, [], length, sym, refl, ap, ◌∙◌}
 use Rattle.syntax.specs.declared.event.Event.{Event}
-use Rattle.source.specs.declared.close.Close.{Close}
+use Rattle.source.specs.Meaning.{Close}
 use Rattle.refusal.specs.declared.refusal.Refusal.TheVariants.{SourceFault, Full}
 use Rattle.tree.specs.Labels.{blank_slot}
-use Rattle.tree.specs.Memory.{fit}
+use Rattle.lent.specs.Lists.{fit}
 use Rattle.tree.specs.Trees.{size, text_of}
 use Rattle.grammar.specs.declared.entry.Entry.{Entry}
 use Rattle.grammar.specs.Words.{Word}

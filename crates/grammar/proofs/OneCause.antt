@@ -14,7 +14,7 @@ pub neither : {P : Type 0} {b : Bool} → b ≡ true → b ≡ false → P
 neither t f = absurd (both_ways _ f t)
 
 pub some_none : {A P : Type 0} {o : Option A} {x : A} → o ≡ Some x → o ≡ None → P
-some_none {A} {P} {o} {x} s n = let z : ◌≡◌ {A = ℕ} 0 1 = cc in absurd (omega arith)
+some_none {A} {P} {o} {x} s n = cc
 
 pub some_same : {A : Type 0} {o : Option A} {x y : A} → o ≡ Some x → o ≡ Some y → x ≡ y
 some_same {A} {o} {x} {y} a b = cc

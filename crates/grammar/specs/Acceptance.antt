@@ -1,7 +1,7 @@
 -- When a condition is accepted, and what the slots then hold.
 use Rattle.std.specs.Prelude.{◌≡◌, ℕ, ◌-◌, ◌≤◌, true, false, List, length, ◌≢◌, nat_lt}
 use Rattle.syntax.specs.declared.event.Event.{Event}
-use Rattle.source.specs.declared.close.Close.{Close}
+use Rattle.source.specs.Meaning.{Close}
 use Rattle.refusal.specs.Refusals.{facts_of}
 use Rattle.refusal.specs.declared.refusal.Refusal.{Refusal}
 use Rattle.tree.specs.Holds.{Holds, reached, up_from}

@@ -3,14 +3,14 @@ use Rattle.std.specs.Prelude.{◌≡◌, ℕ, Bool, true, false, cond, ◌&&◌,
 use Rattle.syntax.specs.Events.{blank}
 use Rattle.syntax.specs.Spans.{span_of}
 use Rattle.syntax.specs.declared.event.Event.{Event}
-use Rattle.source.specs.declared.close.Close.{Close}
+use Rattle.source.specs.Meaning.{Close}
 use Rattle.source.specs.declared.close.Fault.{Fault}
 use Rattle.refusal.specs.Refusals.{facts_of}
 use Rattle.refusal.specs.declared.refusal.Refusal.{Refusal}
 use Rattle.refusal.specs.declared.refusal.Refusal.TheVariants.{OutOfPlace, TooLong, Full, SourceFault}
 use Rattle.tree.specs.Labels.{blank_slot}
 use Rattle.tree.specs.Layout.{layout}
-use Rattle.tree.specs.Memory.{fit}
+use Rattle.lent.specs.Lists.{fit}
 use Rattle.tree.specs.Trees.{Tree, size, text_of}
 use Rattle.tree.specs.declared.slot.Slot.{Slot}
 use Rattle.grammar.specs.declared.entry.Entry.{Entry}

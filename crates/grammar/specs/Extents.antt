@@ -1,5 +1,5 @@
 -- The events of a condition in a list of events, and what becomes of them.
-use Rattle.std.specs.Prelude.{ℕ, zero, suc, Bool, true, false, cond, List, [], ◌∷◌, Some, None, Option}
+use Rattle.std.specs.Prelude.{ℕ, zero, suc, Bool, true, false, cond, List, [], ◌∷◌, None, Option}
 use Rattle.kinds.specs.Kinds.{same}
 use Rattle.kinds.specs.declared.kind.SyntaxKind.TheVariants.{BOOLEAN_EXPR}
 use Rattle.syntax.specs.Events.{is_trivia, is_boundary, span_at}
@@ -7,9 +7,8 @@ use Rattle.syntax.specs.Spans.{span_of}
 use Rattle.syntax.specs.declared.event.Event.{Event}
 use Rattle.syntax.specs.declared.event.Event.TheVariants.{Error, Begin, End, Token}
 use Rattle.syntax.specs.declared.span.Span.{Span}
-use Rattle.source.specs.declared.close.Close.{Close}
-use Rattle.source.specs.declared.close.Close.TheVariants as closing
 use Rattle.source.specs.declared.close.Fault.{Fault}
+use Rattle.source.specs.Meaning.{Close}
 use Rattle.grammar.specs.declared.entry.Entry.{Entry}
 use Rattle.grammar.specs.Words.{Word}
 
@@ -59,15 +58,11 @@ is_closed closed = true
 is_closed boundary = false
 is_closed close = false
 
-abbrev pub fault_in : Close → Option Fault
-fault_in closing.End = None
-fault_in (closing.Fault f) = Some f
-
 -- the fault that an extent ends in, if it does
 abbrev pub fault_at : Ending → Close → Option Fault
 fault_at closed c = None
 fault_at boundary c = None
-fault_at close c = fault_in c
+fault_at close c = c
 
 -- the extent without trivia: what the event row keeps
 abbrev pub gathered : List Event → List Event

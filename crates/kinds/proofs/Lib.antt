@@ -1,3 +1,3 @@
-pub mod Places
 pub mod Inverse
 pub mod Naming
+pub mod Equal

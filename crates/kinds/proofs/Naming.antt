@@ -1,12 +1,14 @@
 -- A kind and its name determine each other.
-use Rattle.std.proofs.Common.{◌≡◌, ℕ, zero, suc, ◌+◌, ◌<◌, ◌≤◌, Bool, true, false, cond, eqb, List, [], ◌∷◌, length, get_or, drop, refl, suc-add, arith, eq-eqb, eqb-true}
-use Rattle.std.proofs.lemmas.List.{drop_all}
+use Rattle.std.proofs.Common.{◌≡◌, ℕ, suc, ◌+◌, ◌∙◌, ap, arith, Bool, true, false, cond, not, List, [], ◌∷◌, map, Option, Some, None, option_map, find, slice_get, sym, bytes_eq, Bor, refl}
+use Rattle.std.specs.List.{position_or_len}
+use Rattle.std.specs.Slice.{IsItemAt}
+use Rattle.std.proofs.lemmas.Option.{slice_get_past, slice_get_read}
 use Rattle.kinds.specs.Kinds.{number_of}
-use Rattle.kinds.specs.Names.{names, name_of, same_text, place_of}
+use Rattle.kinds.specs.Names.{names, name_of, place_of}
 use Rattle.kinds.specs.declared.kind.SyntaxKind.{SyntaxKind}
 use Rattle.kinds.specs.declared.kind.SyntaxKind.TheVariants.{ALL_KW, AND_KW, ANY_KW, ASCII_KW, AT_KW, BASE64_KW, BASE64WIDE_KW, CONDITION_KW, CONTAINS_KW, DEFINED_KW, ENDSWITH_KW, ENTRYPOINT_KW, FALSE_KW, FILESIZE_KW, FOR_KW, FULLWORD_KW, GLOBAL_KW, ICONTAINS_KW, IENDSWITH_KW, IEQUALS_KW, IMPORT_KW, IN_KW, INCLUDE_KW, ISTARTSWITH_KW, MATCHES_KW, META_KW, NOCASE_KW, NONE_KW, NOT_KW, OF_KW, OR_KW, PRIVATE_KW, RULE_KW, STARTSWITH_KW, STRINGS_KW, THEM_KW, TRUE_KW, WIDE_KW, XOR_KW, WITH_KW, ADD, SUB, MUL, DIV, MOD, MINUS, SHL, SHR, BITWISE_AND, BITWISE_OR, BITWISE_XOR, BITWISE_NOT, EQ, NE, LT, LE, GT, GE, AMPERSAND, ASTERISK, CARET, COLON, COMMA, BACKSLASH, DOT, EQUAL, HYPHEN, PERCENT, PIPE, PLUS, TILDE, L_BRACE, R_BRACE, L_BRACKET, R_BRACKET, L_PAREN, R_PAREN, FLOAT_LIT, STRING_LIT, INTEGER_LIT, COMMENT, WHITESPACE, NEWLINE, IDENT, PATTERN_IDENT, PATTERN_LENGTH, PATTERN_OFFSET, PATTERN_COUNT, IMPORT_STMT, INCLUDE_STMT, RULE_DECL, RULE_MODS, RULE_TAGS, CONDITION_BLK, PATTERN_DEF, PATTERNS_BLK, PATTERN_MODS, PATTERN_MOD, RANGE, REGEXP, EXPR, PRIMARY_EXPR, TERM, FUNC_CALL, META_DEF, META_BLK, SOURCE_FILE, BOOLEAN_EXPR, BOOLEAN_TERM, FOR_EXPR, OF_EXPR, WITH_EXPR, WITH_DECLS, WITH_DECL, ITERABLE, QUANTIFIER, EXPR_TUPLE, BOOLEAN_EXPR_TUPLE, PATTERN_IDENT_TUPLE, HEX_ALTERNATIVE, HEX_JUMP, HEX_BYTE, HEX_PATTERN, HEX_SUB_PATTERN, ERROR, UNKNOWN, INVALID_UTF8}
-use Rattle.kinds.proofs.Inverse.{and_both}
 
+-- kind by kind: `search` gives up at the whole
 pub name_place : (k : SyntaxKind) → place_of (name_of k) names ≡ number_of k
 unfolding place_of
 name_place ALL_KW = refl
@@ -137,33 +139,21 @@ name_place ERROR = refl
 name_place UNKNOWN = refl
 name_place INVALID_UTF8 = refl
 
-same_self : (t : List ℕ) → same_text t t ≡ true
-same_self [] = refl
-same_self (b ∷ t) = rw (eq-eqb b b refl) (same_self t)
+first : (p : SyntaxKind × Bor (List ℕ)) (b : Bool) (o : Option (SyntaxKind × Bor (List ℕ))) (ks : List SyntaxKind) (n : ℕ) → option_map (λ p. p.0) o ≡ slice_get ks n → option_map (λ p. p.0) (cond b (Some p) o) ≡ slice_get (p.0 ∷ ks) (cond (not b) (1 + n) 0)
+first p true o ks n h = refl
+first p false o ks n h = let next : suc n ≡ 1 + n = omega arith in h ∙ ap (slice_get (p.0 ∷ ks)) next
 
-same_true : (s t : List ℕ) → same_text s t ≡ true → s ≡ t
-same_true [] [] h = refl
-same_true [] (c ∷ t) h = let z : ◌≡◌ {A = ℕ} 0 1 = cc in absurd (omega arith)
-same_true (b ∷ s) [] h = let z : ◌≡◌ {A = ℕ} 0 1 = cc in absurd (omega arith)
-same_true (b ∷ s) (c ∷ t) h = let p = and_both (eqb b c) _ h in let e = eqb-true b c p.0 in let f = same_true s t p.1 in cc
-
-passed : (s t : List ℕ) (b : Bool) (n : ℕ) → same_text s t ≡ b → (s ≡ t → ⊥) → cond b 0 (suc n) ≡ n + 1
-passed s t true n h d = absurd (d (same_true s t h))
-passed s t false n h d = omega arith
-
--- a text stands at the first place where it is found
-pub place_here : (t : List ℕ) (ss : List (List ℕ)) (i : ℕ) → i < length ss → get_or ss i [] ≡ t → place_of t (drop i ss) ≡ 0
+-- the first of a table's rows whose text is t holds the kind at the text's place
+pub row_named : (t : List ℕ) (rows : List (SyntaxKind × Bor (List ℕ))) → option_map (λ p. p.0) (find (λ p. bytes_eq p.1.now t) rows) ≡ slice_get (map (λ p. p.0) rows) (place_of t (map (λ p. p.1.now) rows))
 unfolding place_of
-place_here t [] i l e = absurd (omega arith)
-place_here t (s ∷ ss) zero l e = rw (e, same_self t)
-place_here t (s ∷ ss) (suc i) l e = place_here t ss i (omega arith) e
+row_named t [] = refl
+row_named t (p ∷ rows) = first p (bytes_eq p.1.now t) _ (map (λ p. p.0) rows) (position_or_len (λ s. bytes_eq s t) (map (λ p. p.1.now) rows)) (row_named t rows)
 
-pub place_next : (t : List ℕ) (ss : List (List ℕ)) (i : ℕ) → i < length ss → (get_or ss i [] ≡ t → ⊥) → place_of t (drop i ss) ≡ place_of t (drop (i + 1) ss) + 1
-unfolding place_of
-place_next t [] i l d = absurd (omega arith)
-place_next t (s ∷ ss) zero l d = passed s t (same_text s t) (place_of t ss) refl d
-place_next t (s ∷ ss) (suc i) l d = rw (suc-add i 1) (place_next t ss i (omega arith) d)
+pub mapped : {A B : Type 0} (o : Option (Bor (A × B))) → option_map (λ r. r.now.0) o ≡ option_map (λ p. p.0) (option_map (λ r. r.now) o)
+mapped None = refl
+mapped (Some r) = refl
 
-pub place_none : (t : List ℕ) (ss : List (List ℕ)) (i : ℕ) → length ss ≤ i → place_of t (drop i ss) ≡ 0
-unfolding place_of
-place_none t ss i l = rw (drop_all i ss l)
+-- a reference to the row at a place, or none where there is no such row
+pub row_at : {A : Type 0} (rows : List A) (i : ℕ) (o : Option (Bor A)) → IsItemAt rows i o → option_map (λ r. r.now) o ≡ slice_get rows i
+row_at rows i None h = sym (slice_get_past rows i h.3)
+row_at rows i (Some r) h = sym (slice_get_read rows _ i r.now refl h.3.0 (h.3.1 r.now))

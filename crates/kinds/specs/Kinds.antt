@@ -1,7 +1,6 @@
 -- The kinds of node and token of a syntax tree, by number.
-use Rattle.std.specs.Prelude.{ℕ, Bool, List, [], ◌∷◌, Option, ◌==◌}
+use Rattle.std.specs.Prelude.{ℕ, Bool, List, [], ◌∷◌, Option, ◌==◌, slice_get}
 use Rattle.std.specs.Cmp.{IsPartialEquivalence, partial_equiv_from_equiv, on_equiv, nat_eq_equiv}
-use Rattle.kinds.specs.At.{at}
 use Rattle.kinds.specs.declared.kind.SyntaxKind.{SyntaxKind}
 use Rattle.kinds.specs.declared.kind.SyntaxKind.TheVariants.{ALL_KW, AND_KW, ANY_KW, ASCII_KW, AT_KW, BASE64_KW, BASE64WIDE_KW, CONDITION_KW, CONTAINS_KW, DEFINED_KW, ENDSWITH_KW, ENTRYPOINT_KW, FALSE_KW, FILESIZE_KW, FOR_KW, FULLWORD_KW, GLOBAL_KW, ICONTAINS_KW, IENDSWITH_KW, IEQUALS_KW, IMPORT_KW, IN_KW, INCLUDE_KW, ISTARTSWITH_KW, MATCHES_KW, META_KW, NOCASE_KW, NONE_KW, NOT_KW, OF_KW, OR_KW, PRIVATE_KW, RULE_KW, STARTSWITH_KW, STRINGS_KW, THEM_KW, TRUE_KW, WIDE_KW, XOR_KW, WITH_KW, ADD, SUB, MUL, DIV, MOD, MINUS, SHL, SHR, BITWISE_AND, BITWISE_OR, BITWISE_XOR, BITWISE_NOT, EQ, NE, LT, LE, GT, GE, AMPERSAND, ASTERISK, CARET, COLON, COMMA, BACKSLASH, DOT, EQUAL, HYPHEN, PERCENT, PIPE, PLUS, TILDE, L_BRACE, R_BRACE, L_BRACKET, R_BRACKET, L_PAREN, R_PAREN, FLOAT_LIT, STRING_LIT, INTEGER_LIT, COMMENT, WHITESPACE, NEWLINE, IDENT, PATTERN_IDENT, PATTERN_LENGTH, PATTERN_OFFSET, PATTERN_COUNT, IMPORT_STMT, INCLUDE_STMT, RULE_DECL, RULE_MODS, RULE_TAGS, CONDITION_BLK, PATTERN_DEF, PATTERNS_BLK, PATTERN_MODS, PATTERN_MOD, RANGE, REGEXP, EXPR, PRIMARY_EXPR, TERM, FUNC_CALL, META_DEF, META_BLK, SOURCE_FILE, BOOLEAN_EXPR, BOOLEAN_TERM, FOR_EXPR, OF_EXPR, WITH_EXPR, WITH_DECLS, WITH_DECL, ITERABLE, QUANTIFIER, EXPR_TUPLE, BOOLEAN_EXPR_TUPLE, PATTERN_IDENT_TUPLE, HEX_ALTERNATIVE, HEX_JUMP, HEX_BYTE, HEX_PATTERN, HEX_SUB_PATTERN, ERROR, UNKNOWN, INVALID_UTF8}
 
@@ -11,7 +10,7 @@ kinds = ALL_KW ∷ AND_KW ∷ ANY_KW ∷ ASCII_KW ∷ AT_KW ∷ BASE64_KW ∷ BA
 
 -- the kind of a number is the one at that place, if any
 abbrev pub kind_of : ℕ → Option SyntaxKind
-kind_of n = at kinds n
+kind_of n = slice_get kinds n
 
 -- a kind's number: its place, from 0
 abbrev pub number_of : SyntaxKind → ℕ

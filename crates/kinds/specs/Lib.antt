@@ -1,3 +1,2 @@
-pub mod At
 pub mod Kinds
 pub mod Names

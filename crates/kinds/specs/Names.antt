@@ -1,5 +1,6 @@
 -- The kinds by their names.
-use Rattle.std.specs.Prelude.{ℕ, suc, Bool, true, false, cond, ◌&&◌, List, [], ◌∷◌, codes, Option, ◌==◌, slice_index_or}
+use Rattle.std.specs.Prelude.{ℕ, List, [], ◌∷◌, codes, Option, bytes_eq, slice_index_or}
+use Rattle.std.specs.List.{position_or_len}
 use Rattle.kinds.specs.Kinds.{number_of, kind_of}
 use Rattle.kinds.specs.declared.kind.SyntaxKind.{SyntaxKind}
 
@@ -10,16 +11,9 @@ names = codes "ALL_KW" ∷ codes "AND_KW" ∷ codes "ANY_KW" ∷ codes "ASCII_KW
 abbrev pub name_of : SyntaxKind → List ℕ
 name_of k = slice_index_or names (number_of k) []
 
-abbrev pub same_text : List ℕ → List ℕ → Bool
-same_text [] [] = true
-same_text [] (c ∷ t) = false
-same_text (b ∷ s) [] = false
-same_text (b ∷ s) (c ∷ t) = b == c && same_text s t
-
 -- where a text first stands in a list; the list's length where it does not
 unfoldable pub place_of : List ℕ → List (List ℕ) → ℕ
-place_of t [] = 0
-place_of t (s ∷ ss) = cond (same_text s t) 0 (suc (place_of t ss))
+place_of t ss = position_or_len (λ s. bytes_eq s t) ss
 
 -- the kind with a name, if any
 abbrev pub kind_named : List ℕ → Option SyntaxKind

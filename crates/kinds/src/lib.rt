@@ -3,4 +3,4 @@
 
 mod kind;
 
-pub use kind::SyntaxKind;
+pub use kind::{SyntaxKind, UnknownKind};

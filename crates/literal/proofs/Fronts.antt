@@ -1,8 +1,7 @@
 -- The front that `valid_prefix` measures is made of whole characters, and is the longest that is.
-use Rattle.std.proofs.Common.{◌≡◌, ℕ, zero, suc, ◌+◌, ◌<◌, ◌≤◌, Bool, true, false, cond, ◌&&◌, leb, List, [], ◌∷◌, ◌++◌, length, take, drop, sym, refl, ap, ◌∙◌, subst, inl, inr, ⊎_elim, append_assoc, zero-add, arith, length-append, length-drop, take-append-drop, length-take, le-leb, leb-true}
+use Rattle.std.proofs.Common.{◌≡◌, ℕ, zero, suc, ◌+◌, ◌<◌, ◌≤◌, Bool, true, false, cond, ◌&&◌, leb, List, [], ◌∷◌, ◌++◌, length, take, drop, sym, refl, ap, ◌∙◌, subst, inl, inr, ⊎_elim, append_assoc, zero-add, arith, length-append, length-drop, take-append-drop, length-take, leb-true}
 use lib.Seq.{drop-append_seam}
-use borrow.Author.Tests.{lt-leb}
-use Rattle.std.proofs.lemmas.Bool.{and_parts, cases_Bool, and_left, and_right}
+use Rattle.std.proofs.lemmas.Bool.{and_parts, cases_Bool}
 use Rattle.literal.specs.Utf8.{Range, forms, OneOf, Follows, Characters, none, more, begins, bytes_by, char_bytes, valid_from, valid_prefix, Longest}
 
 -- ---- the rows begin with different bytes, in rising order
@@ -30,16 +29,16 @@ first_above n ((r ∷ rs) ∷ fs) form bs a (inr o) f = first_above n fs form bs
 follows_begins : (form : List Range) (bs ys : List ℕ) → Follows form bs → begins form (bs ++ ys) ≡ true
 follows_begins [] bs ys f = refl
 follows_begins (r ∷ rs) [] ys f = absurd f
-follows_begins (r ∷ rs) (b ∷ bs) ys f = let x = le-leb r.0 b f.0 in let y = le-leb b r.1 f.1 in let z = follows_begins rs bs ys f.2 in rw (x, y, z)
+follows_begins (r ∷ rs) (b ∷ bs) ys f = let x = f.0 in let y = f.1 in let z = follows_begins rs bs ys f.2 in grind arith
 
 follows_length : (form : List Range) (bs : List ℕ) → Follows form bs → length form ≡ length bs
 follows_length [] [] f = refl
 follows_length [] (b ∷ bs) f = absurd f
 follows_length (r ∷ rs) [] f = absurd f
-follows_length (r ∷ rs) (b ∷ bs) f = ap suc (follows_length rs bs f.2)
+follows_length (r ∷ rs) (b ∷ bs) f = let h = follows_length rs bs f.2 in grind arith
 
 passed : (r : Range) (rs : List Range) (b : ℕ) (bs : List ℕ) → r.1 < b → begins (r ∷ rs) (b ∷ bs) ≡ false
-passed r rs b bs h = let x = lt-leb b r.1 h in and_left (leb r.0 b && leb b r.1) (begins rs bs) (and_right (leb r.0 b) (leb b r.1) x)
+passed r rs b bs h = grind arith
 
 -- the row that bytes follow is the one that is found
 found : (fs : List (List Range)) (form : List Range) (bs ys : List ℕ) → rising fs ≡ true → OneOf form fs → Follows form bs → bytes_by fs (bs ++ ys) ≡ length bs
@@ -63,11 +62,7 @@ char_found form bs ys o f = found forms form bs ys refl o f
 begins_follows : (form : List Range) (bs : List ℕ) → begins form bs ≡ true → Follows form (take (length form) bs) × (length form ≤ length bs)
 begins_follows [] bs e = (tt, omega arith)
 begins_follows (r ∷ rs) [] e = no e
-begins_follows (r ∷ rs) (b ∷ bs) e =
-    let p = and_parts (leb r.0 b && leb b r.1) (begins rs bs) e in
-    let q = and_parts (leb r.0 b) (leb b r.1) p.0 in
-    let s = begins_follows rs bs p.1 in
-    ((leb-true _ _ q.0, leb-true _ _ q.1, s.0), omega (arith, s.1))
+begins_follows (r ∷ rs) (b ∷ bs) e = let p : begins rs bs ≡ true = grind arith in let s = begins_follows rs bs p in ((grind arith, grind arith, s.0), omega (arith, s.1))
 
 abbrev Found : List (List Range) → List ℕ → ℕ → Type 0
 Found fs bs n = (form : List Range) × OneOf form fs × Follows form (take n bs) × (n ≤ length bs)

@@ -1,18 +1,15 @@
 -- Strings and floats read back what they write.
-use Rattle.std.proofs.Common.{◌≡◌, ℕ, suc, ◌+◌, ◌-◌, ◌*◌, ◌/◌, ◌%◌, ◌<◌, ◌≤◌, true, false, cond, eqb, ltb, leb, List, [], ◌∷◌, ◌++◌, length, get_or, take, Some, None, Ok, Err, sym, refl, ap, ◌∙◌, subst, ⊎_elim, append-nil, arith, length-append, le-ltb, lt-ltb, eq-eqb, ne_eqb, le-leb}
-use borrow.Author.Tests.{lt-leb}
-use Rattle.std.specs.Option.{option_map}
-use Rattle.std.specs.Char.{digit_value, digit_char}
-use Rattle.std.proofs.lemmas.Bool.{cases_lt, and_from, and_parts, and_left}
+use Rattle.std.proofs.Common.{◌≡◌, ℕ, suc, ◌+◌, ◌-◌, ◌*◌, ◌/◌, ◌%◌, ◌<◌, true, cond, List, [], ◌∷◌, ◌++◌, length, get_or, take, Some, None, Ok, Err, sym, refl, ap, ◌∙◌, subst, append-nil, arith, length-append}
+use Rattle.std.specs.Char.{digit_char}
 use Rattle.syntax.specs.declared.span.Span.{Span}
-use Rattle.refusal.specs.declared.refusal.Refusal.TheVariants.{BadToken, InvalidFloat}
+use Rattle.refusal.specs.declared.refusal.Refusal.TheVariants.{BadToken}
 use Rattle.literal.specs.declared.string.StringValue.TheVariants.{Decoded}
-use Rattle.literal.specs.Digits.{number_of, are_digits, written, without}
+use Rattle.literal.specs.Digits.{number_of, are_digits, without}
 use Rattle.literal.specs.Escapes.{hex_of, Stands, nothing, hex, reading, reading_from}
 use Rattle.literal.specs.Floats.{whole, fraction, rounded, as_float}
 use Rattle.literal.specs.Laws.{all_as_hex, Bytes, EscapedBytesReadBack, DecimalsReadBack}
 use Rattle.literal.specs.Regexps.{has}
-use Rattle.literal.specs.Strings.{opens_three, quoted, inner, escape_refusal, value_of}
+use Rattle.literal.specs.Strings.{inner, escape_refusal, value_of}
 use Rattle.literal.specs.Texts.{or_else}
 use Rattle.literal.proofs.Numbers.{Free, free_digits, free_cons, spread_without}
 use Rattle.literal.proofs.Standing.{complete}
@@ -20,11 +17,7 @@ use Rattle.literal.proofs.Standing.{complete}
 -- ---- hexadecimal digits
 
 hex_digit : (d : ℕ) → d < 16 → hex_of (digit_char d) ≡ Some d
-hex_digit d h = ⊎_elim
-    (λ (l : d < 10). let x = lt-ltb d 10 l in let a = le-leb 48 (48 + d) (omega arith) in let b = le-leb (48 + d) 57 (omega arith) in
-    ap (λ t. hex_of (cond t (48 + d) (87 + d))) x ∙ rw (a, b) (ap Some (omega arith)))
-    (λ (l : 10 ≤ d). let x = le-ltb d 10 l in let a = le-leb 48 (87 + d) (omega arith) in let b = lt-leb (87 + d) 57 (omega arith) in let c = le-leb 97 (87 + d) (omega arith) in let e = le-leb (87 + d) 102 (omega arith) in
-    ap (λ t. hex_of (cond t (48 + d) (87 + d))) x ∙ rw (a, b, c, e) (ap Some (omega arith))) (cases_lt d 10)
+hex_digit d h = grind arith
 
 stands : (bs : List ℕ) → Bytes bs → Stands (all_as_hex bs) bs
 stands [] u = nothing
@@ -40,25 +33,21 @@ whole_reading bs u = ap reading (sym (append-nil (all_as_hex bs))) ∙ complete 
 
 last_quote : (x : ℕ) (xs : List ℕ) → get_or (x ∷ (xs ++ (34 ∷ []))) (length (x ∷ (xs ++ (34 ∷ []))) - 1) 0 ≡ 34
 last_quote x [] = refl
-last_quote x (y ∷ ys) =
-    let e : length (x ∷ y ∷ (ys ++ (34 ∷ []))) - 1 ≡ suc (length (y ∷ (ys ++ (34 ∷ []))) - 1) = omega arith in
-    ap (λ n. get_or (x ∷ y ∷ (ys ++ (34 ∷ []))) n 0) e ∙ last_quote y ys
+last_quote x (y ∷ ys) = let h = last_quote y ys in grind arith
 
 take_whole : (xs : List ℕ) → take (length xs) (xs ++ (34 ∷ [])) ≡ xs
 take_whole [] = refl
-take_whole (x ∷ xs) = ap (λ l. x ∷ l) (take_whole xs)
+take_whole (x ∷ xs) = let h = take_whole xs in grind arith
 
 -- a text whose first byte is no quote, between two quotes
 bounded : (x : ℕ) (xs : List ℕ) → (x ≡ 34 → ⊥) → inner (34 ∷ ((x ∷ xs) ++ (34 ∷ []))) ≡ Some (1, x ∷ xs)
 bounded x xs n =
     let t = 34 ∷ ((x ∷ xs) ++ (34 ∷ [])) in
     let l : length t ≡ suc (suc (suc (length xs))) = omega (arith, length-append (x ∷ xs) (34 ∷ [])) in
-    let o : opens_three t ≡ false = and_left (eqb x 34) _ (ne_eqb x 34 n) in
-    let h : leb 2 (length t) ≡ true = le-leb 2 (length t) (omega arith) in
-    let z : eqb (get_or t (length t - 1) 0) 34 ≡ true = eq-eqb _ 34 (last_quote 34 (x ∷ xs)) in
-    let q : quoted t ≡ true = and_from _ _ h z in
+    let z = last_quote 34 (x ∷ xs) in
     let m : length t - 2 ≡ length (x ∷ xs) = omega arith in
-    rw (o, q) (ap (λ k. Some (1, k)) (ap (λ j. take j ((x ∷ xs) ++ (34 ∷ []))) m ∙ take_whole (x ∷ xs)))
+    let k : take (length t - 2) ((x ∷ xs) ++ (34 ∷ [])) ≡ x ∷ xs = ap (λ j. take j ((x ∷ xs) ++ (34 ∷ []))) m ∙ take_whole (x ∷ xs) in
+    grind arith
 
 hexed : (b : ℕ) (bs : List ℕ) → inner (34 ∷ (all_as_hex (b ∷ bs) ++ 34 ∷ [])) ≡ Some (1, all_as_hex (b ∷ bs))
 hexed b bs = bounded 92 (120 ∷ digit_char (b / 16) ∷ digit_char (b % 16) ∷ all_as_hex bs) (λ e. omega arith)
@@ -80,21 +69,15 @@ no_dot ds a = free_digits 10 46 ds a (omega arith) (omega arith)
 
 whole_front : (w r : List ℕ) → Free 46 w → (whole (w ++ 46 ∷ r) ≡ w) × (fraction (w ++ 46 ∷ r) ≡ r)
 whole_front [] r f = (refl, refl)
-whole_front (d ∷ w) r f =
-    let x = ne_eqb d 46 (f 0) in
-    let h = whole_front w r (λ i e. f (suc i) e) in
-    (ap (λ b. cond b [] (d ∷ whole (w ++ 46 ∷ r))) x ∙ ap (λ l. d ∷ l) h.0, ap (λ b. cond b (w ++ 46 ∷ r) (fraction (w ++ 46 ∷ r))) x ∙ h.1)
+whole_front (d ∷ w) r f = let n = f 0 in let h = whole_front w r (λ i e. f (suc i) e) in (grind arith, grind arith)
 
 whole_all : (w : List ℕ) → Free 46 w → (whole w ≡ w) × (fraction w ≡ [])
 whole_all [] f = (refl, refl)
-whole_all (d ∷ w) f =
-    let x = ne_eqb d 46 (f 0) in
-    let h = whole_all w (λ i e. f (suc i) e) in
-    (ap (λ b. cond b [] (d ∷ whole w)) x ∙ ap (λ l. d ∷ l) h.0, ap (λ b. cond b w (fraction w)) x ∙ h.1)
+whole_all (d ∷ w) f = let n = f 0 in let h = whole_all w (λ i e. f (suc i) e) in (grind arith, grind arith)
 
 digits_append : (u v : List ℕ) → are_digits 10 u ≡ true → are_digits 10 v ≡ true → are_digits 10 (u ++ v) ≡ true
 digits_append [] v a b = b
-digits_append (d ∷ u) v a b = let p = and_parts (ltb (digit_value d) 10) (are_digits 10 u) a in and_from _ _ p.0 (digits_append u v p.1 b)
+digits_append (d ∷ u) v a b = grind (arith, digits_append u v)
 
 free_append : (c : ℕ) (u v : List ℕ) → Free c u → Free c v → Free c (u ++ v)
 free_append c [] v f g = g
@@ -102,10 +85,7 @@ free_append c (d ∷ u) v f g = free_cons c d (u ++ v) (λ e. f 0 e) (free_appen
 
 -- the digits of a text are known
 known : (t w f : List ℕ) (s : Span) → whole (without t) ≡ w → fraction (without t) ≡ f → are_digits 10 (w ++ f) ≡ true → 0 < length (w ++ f) → as_float t s ≡ rounded (number_of 10 (w ++ f), length f) s
-known t w f s p q a h =
-    ap (λ x. or_else (option_map (λ d. (d, length (fraction (without t)))) (written 10 (x ++ fraction (without t)))) (λ p. rounded p s) (Err (InvalidFloat s))) p
-    ∙ ap (λ x. or_else (option_map (λ d. (d, length x)) (written 10 (w ++ x))) (λ p. rounded p s) (Err (InvalidFloat s))) q
-    ∙ ap (λ b. or_else (option_map (λ d. (d, length f)) (cond b (Some (number_of 10 (w ++ f))) None)) (λ p. rounded p s) (Err (InvalidFloat s))) (and_from _ _ a (lt-ltb 0 (length (w ++ f)) h))
+known t w f s p q a h = grind arith
 
 pub decimals : DecimalsReadBack
 decimals = record {

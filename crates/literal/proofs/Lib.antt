@@ -9,6 +9,7 @@ pub mod Parted
 pub mod Points
 pub mod Quotients
 pub mod Refusing
+pub mod Slashes
 pub mod Standing
 pub mod Sums
 pub mod Wellformed

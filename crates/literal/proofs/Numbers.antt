@@ -1,20 +1,18 @@
 -- Integers read back what they write.
-use Rattle.std.proofs.Common.{◌≡◌, ℕ, zero, suc, ◌+◌, ◌-◌, ◌*◌, ◌^◌, ◌<◌, ◌≤◌, true, false, cond, eqb, ltb, leb, List, [], ◌∷◌, map, length, get_or, take, pos, negsuc, ◌-ℤ◌, neg_ℤ, Some, None, Ok, Err, sym, refl, ap, ◌∙◌, subst, ⊎_elim, zero-mul, mul-one, arith, ltb-true, le-ltb, lt-ltb, eq-eqb, ne_eqb, le-leb}
+use Rattle.std.proofs.Common.{◌≡◌, ℕ, zero, suc, ◌+◌, ◌-◌, ◌*◌, ◌^◌, ◌<◌, ◌≤◌, true, false, cond, ltb, List, [], ◌∷◌, map, length, get_or, pos, negsuc, neg_ℤ, Some, None, Ok, Err, sym, refl, ap, ◌∙◌, subst, ⊎_elim, zero-mul, mul-one, arith, ltb-true, eq-eqb, ne_eqb}
 use native.Mathlib.Nat.{pow-zero}
-use borrow.Author.Tests.{lt-leb}
-use Rattle.std.specs.Option.{option_map, ok_or}
 use Rattle.std.specs.Str.Parse.{digits_value_after}
 use Rattle.std.specs.Char.{digit_value, digit_char}
 use Rattle.std.specs.Int.Digits.{digits_of, number_from_digits, AllBelowBase}
 use Rattle.std.proofs.lemmas.Int.Digits.{number_digits_of, all_below_base_digits_of, digits_value_is, length-digits_of_step}
-use Rattle.std.proofs.lemmas.Bool.{and_parts, and_from, and_left, and_right, cases_eq}
+use Rattle.std.proofs.lemmas.Bool.{and_parts, cases_eq}
 use Rattle.std.proofs.lemmas.Str.{digit_value-digit_char}
 use Rattle.syntax.specs.declared.span.Span.{Span}
 use Rattle.refusal.specs.declared.refusal.Refusal.TheVariants.{InvalidInteger}
-use Rattle.literal.specs.Digits.{number_of, are_digits, written, without, up_to}
-use Rattle.literal.specs.Integers.{ends, before, factor, behind, plain_number, integer_number, pattern, literal, is_least, is_positive, negated}
+use Rattle.literal.specs.Digits.{number_of, are_digits, written, without}
+use Rattle.literal.specs.Integers.{ends, before, factor, behind, plain_number, integer_number, pattern, literal, is_least, negated}
 use Rattle.literal.specs.Laws.{Writes, Spread, end, keep, under, ReadsAs, IntegersReadBack, NegativesFold}
-use Rattle.literal.specs.Texts.{place_in, or_else}
+use Rattle.literal.specs.Texts.{or_else}
 use Rattle.literal.proofs.Sums.{place_pow}
 
 -- ---- digits
@@ -29,11 +27,11 @@ number_value base ds = sym (horner base 0 ds ∙ omega (arith, zero-mul (base ^ 
 
 digits_under : (base : ℕ) (ds : List ℕ) → AllBelowBase base (map digit_value ds) → are_digits base ds ≡ true
 digits_under base [] u = refl
-digits_under base (d ∷ ds) u = and_from (ltb (digit_value d) base) (are_digits base ds) (lt-ltb (digit_value d) base u.0) (digits_under base ds u.1)
+digits_under base (d ∷ ds) u = let h = digits_under base ds u.1 in let l = u.0 in grind arith
 
 length_map : (ds : List ℕ) → length (map digit_value ds) ≡ length ds
 length_map [] = refl
-length_map (d ∷ ds) = ap suc (length_map ds)
+length_map (d ∷ ds) = let h = length_map ds in grind arith
 
 -- what is written of a number
 record Numeral (base n : ℕ) (ds : List ℕ) : Type 0 where
@@ -65,9 +63,7 @@ numeral base n ds h w = ⊎_elim nought more (cases_eq n 0)
         }
 
 pub numeral_written : (base n : ℕ) (ds : List ℕ) → 2 ≤ base → Writes base n ds → written base ds ≡ Some n
-numeral_written base n ds h w =
-    let m = numeral base n ds h w in
-    ap (λ b. cond b (Some (number_of base ds)) None) (and_from _ _ m.under_base (lt-ltb 0 (length ds) m.some)) ∙ ap Some m.value_of
+numeral_written base n ds h w = let m = numeral base n ds h w in let a = m.under_base in let b = m.some in let c = m.value_of in grind arith
 
 -- ---- characters that do not occur
 
@@ -101,33 +97,22 @@ spread_without f (under {bs} {t} s) = spread_without f s
 -- ---- prefix and suffix
 
 unended : (c : ℕ) (t : List ℕ) → Free c t → ends c t ≡ false
-unended c t f =
-    let x = ne_eqb (get_or t (length t - 2) 0) c (f (length t - 2)) in
-    and_right (leb 2 (length t)) _ (and_left (eqb (get_or t (length t - 2) 0) c) _ x)
+unended c t f = let n = f (length t - 2) in grind arith
 
 -- a text without the suffixes' letters is all before them
 unsized : (t : List ℕ) → Free 75 t → Free 77 t → (before t ≡ t) × (factor t ≡ 1)
-unsized t k m =
-    let x = unended 75 t k in
-    let y = unended 77 t m in (
-      ap (λ b. cond b (take (length t - 2) t) (cond (ends 77 t) (take (length t - 2) t) t)) x ∙ ap (λ b. cond b (take (length t - 2) t) t) y,
-      ap (λ b. cond b 1024 (cond (ends 77 t) 1048576 1)) x ∙ ap (λ b. cond b 1048576 1) y,
-    )
+unsized t k m = let x = unended 75 t k in let y = unended 77 t m in (grind arith, grind arith)
 
 not_behind : (c : ℕ) (t : List ℕ) → Free c t → behind c t ≡ None
 not_behind c [] f = refl
 not_behind c (a ∷ []) f = refl
-not_behind c (a ∷ b ∷ bs) f = let x = ne_eqb b c (f 1) in ap (λ y. cond y (Some bs) None) (and_right (eqb a 48) (eqb b c) x)
+not_behind c (a ∷ b ∷ bs) f = let n = f 1 in grind arith
 
 reads : (t : List ℕ) (n : ℕ) → n < 2 ^ 64 → Free 75 t → Free 77 t → plain_number t ≡ Some n → ReadsAs t n
 reads t n h k m e s =
     let u = unsized t k m in
-    let f : integer_number t ≡ Some n =
-    ap (λ b. option_map (λ x. x * factor t) (plain_number b)) u.0 ∙ ap (option_map (λ x. x * factor t)) e ∙ ap (λ z. Some (n * z)) u.1 ∙ ap Some (mul-one n) in
-    let l = le-leb n (2 ^ 64 - 1) (omega arith) in
-    ap (λ o. ok_or (option_map (λ x. literal x (place_in s 0 (length (before t)))) (up_to (2 ^ 64 - 1) o)) (InvalidInteger s)) f
-    ∙ ap (λ b. ok_or (option_map (λ x. literal x (place_in s 0 (length (before t)))) (cond b (Some n) None)) (InvalidInteger s)) l
-    ∙ ap (λ b. Ok (literal n (place_in s 0 (length b)))) u.0
+    let f : integer_number t ≡ Some n = let z = mul-one n in grind arith in
+    grind arith
 
 decimal : (n : ℕ) (ds t : List ℕ) → n < 2 ^ 64 → Writes 10 n ds → Spread ds t → ReadsAs t n
 decimal n ds t h w s =
@@ -174,33 +159,19 @@ integers = record { writes = some_writing; decimal = decimal; hexadecimal = hexa
 
 folds_signed : (n : ℕ) (name s : Span) → 0 < n → n < 2 ^ 63 → negated (literal n name) s ≡ Ok (Some (record { value = neg_ℤ (pos n); unsigned = false; name = s }))
 folds_signed zero name s z h = absurd (omega arith)
-folds_signed (suc n) name s z h =
-    let x = lt-ltb (suc n) (2 ^ 63) h in
-    let y = lt-leb (2 ^ 63) (suc n) h in
-    let w = lt-ltb 0 (suc n) (omega arith) in
-    rw (y, x, w)
-
-folds_least : (name s : Span) → negated (literal (2 ^ 63) name) s ≡ Ok (Some (record { value = neg_ℤ (pos (2 ^ 63)); unsigned = false; name = s }))
-folds_least name s = refl
+folds_signed (suc n) name s z h = grind arith
 
 pub folds : (n : ℕ) (name s : Span) → 0 < n → n ≤ 2 ^ 63 → negated (literal n name) s ≡ Ok (Some (record { value = neg_ℤ (pos n); unsigned = false; name = s }))
-folds n name s z h = ⊎_elim
-    (λ (e : n ≡ 2 ^ 63). subst (λ k. negated (literal k name) s ≡ Ok (Some (record { value = neg_ℤ (pos k); unsigned = false; name = s }))) (sym e) (folds_least name s))
-    (λ e. folds_signed n name s z (omega arith)) (cases_eq n (2 ^ 63))
+folds n name s z h = ⊎_elim (λ (e : n ≡ 2 ^ 63). subst (λ k. negated (literal k name) s ≡ Ok (Some (record { value = neg_ℤ (pos k); unsigned = false; name = s }))) (sym e) refl) (λ e. folds_signed n name s z (omega arith)) (cases_eq n (2 ^ 63))
 
 high_pattern : (n : ℕ) → 2 ^ 63 ≤ n → n < 2 ^ 64 → pattern n ≡ negsuc (2 ^ 64 - suc n)
-high_pattern n h l =
-    let x = le-ltb n (2 ^ 63) h in
-    let y = lt-ltb n (2 ^ 64) l in
-    ap (λ b. cond b (pos n) (pos n -ℤ pos (2 ^ 64))) x ∙ ap (λ b. cond b (negsuc (2 ^ 64 - suc n)) (pos (n - 2 ^ 64))) y
+high_pattern n h l = grind arith
 
 pub refuses : (n : ℕ) (name s : Span) → 2 ^ 63 < n → n < 2 ^ 64 → negated (literal n name) s ≡ Err (InvalidInteger s)
 refuses n name s h l =
-    let x = le-leb (2 ^ 63) n (omega arith) in
     let v = high_pattern n (omega arith) l in
     let z : is_least (pattern n) ≡ false = ap is_least v ∙ ne_eqb (2 ^ 64 - suc n) (2 ^ 63 - 1) (λ e. omega arith) in
-    ap (λ b. cond b (cond (is_least (pattern n)) (Ok (Some (record { value = pattern n; unsigned = false; name = s }))) (Err (InvalidInteger s))) (cond (is_positive (pattern n)) (Ok (Some (record { value = neg_ℤ (pattern n); unsigned = false; name = s }))) (Ok None))) x
-    ∙ ap (λ b. cond b (Ok (Some (record { value = pattern n; unsigned = false; name = s }))) (Err (InvalidInteger s))) z
+    grind arith
 
 pub negatives : NegativesFold
 negatives = record { negative_stays = λ k name s. refl; zero_stays = λ name s. refl; folds = folds; refuses = refuses }

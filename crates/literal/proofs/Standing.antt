@@ -57,12 +57,6 @@ found (c ∷ cs) p e = go (simple c) refl e
     go (Some d) u f = by_letter c d cs refl u (sym (some_same f))
     go None u f = other (eqb c 120) refl f
 
-letter_found : (c d : ℕ) (cs : List ℕ) → simple c ≡ Some d → escape (c ∷ cs) ≡ Some (d, 1)
-letter_found c d cs u = ap (λ o. or_else {B = Option (ℕ × ℕ)} o (λ d. Some (d, 1)) (cond (eqb c 120) (hex_pair cs) None)) u
-
-hex_found : (h l x y : ℕ) (cs : List ℕ) → hex_of h ≡ Some x → hex_of l ≡ Some y → escape (120 ∷ h ∷ l ∷ cs) ≡ Some (16 * x + y, 3)
-hex_found h l x y cs u v = rw (u, v)
-
 tails : {a b : ℕ} {xs ys : List ℕ} → ◌≡◌ {A = List ℕ} (a ∷ xs) (b ∷ ys) → xs ≡ ys
 tails e = cc
 
@@ -70,8 +64,8 @@ tails e = cc
 bad : (rest : List ℕ) → escape rest ≡ None → BadEscape (92 ∷ rest)
 bad rest e = (
   (rest, refl),
-  (λ b d cs f u. none_some (sym e ∙ ap escape (tails f) ∙ letter_found b d cs u)),
-  (λ h l x y cs f u v. none_some (sym e ∙ ap escape (tails f) ∙ hex_found h l x y cs u v)),
+  (λ b d cs f u. let t = tails f in grind arith),
+  (λ h l x y cs f u v. let t = tails f in grind arith),
 )
 
 not_found : (rest : List ℕ) (p : ℕ × ℕ) → BadEscape (92 ∷ rest) → Found rest p → ⊥
@@ -170,10 +164,3 @@ refused_at t at e = go (reading t).stop refl e
         let n : at ≡ length t - length rest = cc in
         let h = stop_at t rest s in
         (s ∙ ap Some h.0 ∙ ap (λ k. Some (drop k t)) (sym n), omega (arith, h.1), ap (λ k. get_or t k 0) n ∙ h.2)
-
-pub accepted : (t : List ℕ) (n : ℕ) → Ok n ≡ count_of t → ((reading t).stop ≡ None) × (n ≡ length (reading t).bytes)
-accepted t n e = go (reading t).stop refl e
-  where
-    go : (o : Option (List ℕ)) → (reading t).stop ≡ o → Ok n ≡ or_else o (λ rest. Err (length t - length rest)) (Ok (length (reading t).bytes)) → ((reading t).stop ≡ None) × (n ≡ length (reading t).bytes)
-    go None s f = (s, cc)
-    go (Some rest) s f = absurd (let z : ◌≡◌ {A = ℕ} 0 1 = cc in omega arith)

@@ -1,5 +1,5 @@
 -- The rows of the table are the encodings of Unicode's characters, and the front that `valid_prefix` measures is the longest.
-use Rattle.std.proofs.Common.{◌≡◌, ℕ, ◌+◌, ◌-◌, ◌*◌, ◌/◌, ◌<◌, ◌≤◌, true, List, [], ◌∷◌, IsUtf8, sym, refl, subst, inl, inr, ⊎_elim, arith, le-ltb, lt-ltb, le-leb}
+use Rattle.std.proofs.Common.{◌≡◌, ℕ, ◌+◌, ◌-◌, ◌*◌, ◌/◌, ◌<◌, ◌≤◌, true, List, [], ◌∷◌, IsUtf8, sym, refl, subst, inl, inr, ⊎_elim, arith, le-ltb, lt-ltb}
 use lib.Utf8.{scalar, scalars, encode, encodes, next, low_scalar, scalar_cases}
 use Rattle.std.proofs.lemmas.Str.{IsUtf8-append, IsUtf8-encode, IsUtf8-nil}
 use Rattle.std.proofs.lemmas.Bool.{and_parts, cases_lt}
@@ -8,7 +8,7 @@ use Rattle.literal.specs.Utf8.{Range, forms, OneOf, Follows, Characters, none, m
 -- ---- a row's bytes encode a character
 
 high : (c : ℕ) → 57344 ≤ c → c < 1114112 → scalar c ≡ true
-high c l u = let x = le-ltb c 55296 (omega arith) in let y = le-leb 57344 c l in let z = lt-ltb c 1114112 u in rw (x, y, z)
+high c l u = grind arith
 
 one : (a : ℕ) → a ≤ 127 → IsUtf8 (a ∷ [])
 unfolding encode

@@ -1,7 +1,8 @@
--- Writing into lent memory.
-use Rattle.std.specs.Prelude.{ℕ, ◌+◌, List, [], ◌∷◌, slice_set}
+-- Counting in lent memory.
+use Rattle.std.specs.Prelude.{ℕ, List, [], ◌∷◌}
+use Rattle.lent.specs.Lists.{counted}
 
--- a list with others written over it from a place on, as far as they fit
-abbrev pub overlay : {A : Type 0} → List A → ℕ → List A → List A
-overlay m at [] = m
-overlay m at (x ∷ xs) = overlay (slice_set m at x) (at + 1) xs
+-- a counter that has counted each item of a list
+abbrev pub counted_all : {A : Type 0} → ℕ → List A → ℕ
+counted_all n [] = n
+counted_all n (x ∷ xs) = counted_all (counted n) xs

@@ -32,6 +32,12 @@ inner t =
     (cond (closes_three t) (Some (3, take (length t - 6) (drop 3 t))) None)
     (cond (quoted t) (Some (1, take (length t - 2) (drop 1 t))) None)
 
+-- the place of a bad escape that a rest of a text begins with: the backslash and the next character, if there is one
+abbrev pub escape_place : Span → List ℕ → List ℕ → Option Span
+escape_place s t rest =
+    cond (nat_le (length rest) 1) None
+    (Some (place_in s (length t - length rest) (length t - length rest + 1 + char_bytes (drop 1 rest))))
+
 -- the refusal of a text of which a rest begins with a bad escape: the backslash and the next character, if there is one;
 -- q quotes stand before the text
 abbrev pub escape_refusal : Span → ℕ → List ℕ → List ℕ → Refusal

@@ -1,17 +1,17 @@
 ghost use Rattle.std.specs.Prelude.{◌≡◌, ℕ, ◌-◌, ◌^◌, ◌<◌, ◌≤◌, length, pos};
 ghost use Rattle.std.specs.Option.{option_map};
-ghost use Rattle.syntax.specs.Spans.{length_of};
 ghost use Rattle.literal.specs.Digits.{written as written_in, without, up_to};
 ghost use Rattle.literal.specs.Integers.{before, factor, behind, plain_number, integer_number, pattern as pattern_of, as_integer, integer_of, negated};
-ghost use Rattle.literal.specs.Numerals.{pushed, next};
+ghost use Rattle.literal.specs.Numerals.{pushed};
 
-use crate::number::{Number, digit};
-use crate::text::{get_source_str, place_in};
+use crate::number::Number;
+use crate::token::Token;
 use refusal::Refusal;
 use syntax::Span;
 
 // An integer literal: 64 bits, whether they stand for a number above 2^63 - 1, and where its text stands, without a suffix.
-#[derive(Clone, Copy)]
+// The flag stands beside the bits because the slot format, a rule of the project, has both.
+#[derive(Clone, Copy, Debug, PartialEq, Eq)]
 pub struct Integer {
     pub value: i64,
     pub unsigned: bool,
@@ -22,79 +22,58 @@ pub struct Integer {
 pub fn strip_size_suffix(literal: &str) -> (&str, u64)
     ensures value { (result.0.now ≡ before literal.now) × (result.1 ≡ factor literal.now) }
 {
-    let bytes = literal.as_bytes();
-    let n = bytes.len();
-    if n < 2 || bytes[n - 1] != b'B' {
-        return (literal, 1);
-    }
-    match bytes[n - 2] {
-        b'K' => (&literal[0..n - 2], 1024),
-        b'M' => (&literal[0..n - 2], 1_048_576),
-        _ => (literal, 1),
+    if let Some(text) = literal.strip_suffix("KB") {
+        (text, 1024)
+    } else if let Some(text) = literal.strip_suffix("MB") {
+        (text, 1_048_576)
+    } else {
+        (literal, 1)
     }
 }
 
 // A number with one more digit behind it, if the byte is one and 64 bits hold the result.
-fn push_digit(sum: u64, radix: u64, byte: u8) -> Option<u64>
+fn push_digit(sum: u64, radix: u32, byte: u8) -> Option<u64>
+    requires { (2 ≤ radix) × (radix ≤ 36) }
     ensures { result ≡ pushed radix sum byte }
 {
-    let value = digit(byte);
-    if value >= radix {
-        return None;
-    }
-    sum.checked_mul(radix)?.checked_add(value)
+    let digit = char::from(byte).to_digit(radix)?;
+    sum.checked_mul(u64::from(radix))?
+        .checked_add(u64::from(digit))
 }
 
 // The number that digits write, underscores passed over, if 64 bits hold it.
-fn written(text: &[u8], radix: u64) -> Option<u64>
-    requires { 0 < radix }
+fn written(text: &[u8], radix: u32) -> Option<u64>
+    requires { (2 ≤ radix) × (radix ≤ 36) }
     ensures { result ≡ up_to (2 ^ 64 - 1) (written_in radix (without text.now)) }
 {
-    let mut sum = 0;
-    let mut some = false;
+    let mut number = None;
     for b in text {
         if *b != b'_' {
-            sum = push_digit(sum, radix, *b)?;
-            some = true;
+            number = Some(push_digit(number.unwrap_or(0), radix, *b)?);
         }
     }
-    if some { Some(sum) } else { None }
-}
-
-// What stands behind a letter, where it is the first but for underscores.
-fn behind_letter(text: &[u8], letter: u8) -> Option<&[u8]>
-    ensures { option_map (λ x. without x.now) result ≡ next letter (without text.now) }
-{
-    for (i, b) in text.iter().enumerate() {
-        if *b != b'_' {
-            return if *b == letter {
-                Some(&text[i + 1..])
-            } else {
-                None
-            };
-        }
-    }
-    None
+    number
 }
 
 // What stands behind `0x`, underscores passed over.
-fn behind_hex(text: &[u8]) -> Option<&[u8]>
+fn behind_hex(text: &str) -> Option<&str>
     ensures { option_map (λ x. without x.now) result ≡ behind 120 (without text.now) }
 {
-    behind_letter(behind_letter(text, b'0')?, b'x')
+    let rest = text.trim_start_matches('_').strip_prefix('0')?;
+    rest.trim_start_matches('_').strip_prefix('x')
 }
 
 // The digits of a text without a suffix, and their base.
-fn split_base(text: &[u8]) -> (&[u8], u64)
+fn split_base(text: &str) -> (&str, u32)
     ensures value { plain_number text.now ≡ written_in result.1 (without result.0.now) }
-    ensures low_bound { 0 < result.1 }
+    ensures bound { (2 ≤ result.1) × (result.1 ≤ 36) }
 {
     if let Some(digits) = behind_hex(text) {
-        return (digits, 16);
-    }
-    match text {
-        [b'0', b'o', digits @ ..] => (digits, 8),
-        _ => (text, 10),
+        (digits, 16)
+    } else if let Some(digits) = text.strip_prefix("0o") {
+        (digits, 8)
+    } else {
+        (text, 10)
     }
 }
 
@@ -103,13 +82,13 @@ fn integer_number(literal: &str) -> Option<u64>
     ensures { result ≡ up_to (2 ^ 64 - 1) (integer_number literal.now) }
 {
     let (text, factor) = strip_size_suffix(literal);
-    let (digits, radix) = split_base(text.as_bytes());
-    written(digits, radix)?.checked_mul(factor)
+    let (digits, radix) = split_base(text);
+    written(digits.as_bytes(), radix)?.checked_mul(factor)
 }
 
 // The number that a literal writes, as a number of the kind asked for, if it is at most the kind's largest.
 pub fn parse_integer<N: Number>(literal: &str) -> Option<N>
-    ensures { option_map N.Number.value result ≡ option_map pos (up_to N.Number.top (integer_number literal.now)) }
+    ensures { option_map N.Number.value result ≡ option_map pos (up_to N.Number.TOP (integer_number literal.now)) }
 {
     N::from_u64(integer_number(literal)?)
 }
@@ -121,25 +100,26 @@ fn pattern(bits: u64) -> i64
     bits.cast_signed()
 }
 
-fn as_integer(literal: &str, span: Span) -> Result<Integer, Refusal>
-    requires { length literal.now ≤ length_of span }
-    ensures { result ≡ as_integer literal.now span }
-{
-    let name = place_in(span, 0, strip_size_suffix(literal).0.len());
-    if let Some(value) = parse_integer::<i64>(literal) {
-        return Ok(Integer {
-            value,
-            unsigned: false,
-            name,
-        });
-    }
-    match parse_integer::<u64>(literal) {
-        Some(bits) => Ok(Integer {
+impl Token<'_> {
+    fn as_integer(&self) -> Result<Integer, Refusal>
+        ensures { result ≡ as_integer self.now.text.now self.now.span }
+    {
+        let name = self.place(0, strip_size_suffix(self.text).0.len());
+        if let Some(value) = parse_integer::<i64>(self.text) {
+            return Ok(Integer {
+                value,
+                unsigned: false,
+                name,
+            });
+        }
+        let Some(bits) = parse_integer::<u64>(self.text) else {
+            return Err(Refusal::InvalidInteger(self.span));
+        };
+        Ok(Integer {
             value: pattern(bits),
             unsigned: true,
             name,
-        }),
-        None => Err(Refusal::InvalidInteger(span)),
+        })
     }
 }
 
@@ -147,7 +127,7 @@ fn as_integer(literal: &str, span: Span) -> Result<Integer, Refusal>
 pub fn integer_lit(source: &[u8], span: Span) -> Result<Integer, Refusal>
     ensures { result ≡ integer_of source.now span }
 {
-    as_integer(get_source_str(source, span)?, span)
+    Token::of(source, span)?.as_integer()
 }
 
 impl Integer {
@@ -155,22 +135,16 @@ impl Integer {
     pub fn negated(self, span: Span) -> Result<Option<Integer>, Refusal>
         ensures { result ≡ negated self span }
     {
-        if !self.unsigned && self.value > 0 {
-            Ok(Some(Integer {
-                value: -self.value,
-                unsigned: false,
-                name: span,
-            }))
-        } else if self.unsigned && self.value == i64::MIN {
-            Ok(Some(Integer {
-                value: self.value,
-                unsigned: false,
-                name: span,
-            }))
-        } else if self.unsigned {
-            Err(Refusal::InvalidInteger(span))
-        } else {
-            Ok(None)
-        }
+        let value = match (self.unsigned, self.value) {
+            (false, 1..) => -self.value,
+            (true, i64::MIN) => self.value,
+            (true, _) => return Err(Refusal::InvalidInteger(span)),
+            (false, _) => return Ok(None),
+        };
+        Ok(Some(Integer {
+            value,
+            unsigned: false,
+            name: span,
+        }))
     }
 }

@@ -8,6 +8,7 @@ mod number;
 mod regexp;
 mod string;
 mod text;
+mod token;
 mod unescape;
 
 pub use float::float_lit;

@@ -1,91 +1,79 @@
-ghost use Rattle.std.specs.Prelude.{◌≡◌, ◌+◌, ◌-◌, ◌<◌, ◌≤◌, length, drop, slice_index};
+ghost use Rattle.std.specs.Prelude.{◌≡◌, ℕ, ◌+◌, ◌<◌, List, length, drop, slice_index};
 ghost use Rattle.std.specs.Option.{option_map};
-ghost use Rattle.syntax.specs.Spans.{length_of};
-ghost use Rattle.literal.specs.Memory.{overlay};
-ghost use Rattle.literal.specs.Regexps.{has};
-ghost use Rattle.literal.specs.Strings.{inner, escape_refusal, as_string, string_of, decoded_in, decoded_bytes};
+ghost use Rattle.lent.specs.Lists.{overlay};
+ghost use Rattle.literal.specs.Memory.{counted_all};
+ghost use Rattle.literal.specs.Strings.{inner, escape_place, as_string, string_of, decoded_in, decoded_bytes};
+ghost use Rattle.literal.specs.Texts.{place_in};
 
-use crate::text::{get_source_str, place_in};
+use crate::token::Token;
 use crate::unescape::unescape;
+use lent::Lent;
 use refusal::Refusal;
 use syntax::Span;
 
 // What a string stands for: a part of the source, or `len` bytes of the decoded text from `start` on.
-#[derive(Clone, Copy)]
+#[derive(Clone, Copy, Debug, PartialEq, Eq)]
 pub enum StringValue {
     Source(Span),
     Decoded { start: usize, len: usize },
 }
 
-// How many quotes stand on each side, and what stands between.
-fn strip_quotes(literal: &str) -> Option<(usize, &str)>
-    ensures { option_map (λ p. (p.0, p.1.now)) result ≡ inner literal.now }
-{
-    let bytes = literal.as_bytes();
-    let n = bytes.len();
-    match bytes {
-        [b'"', b'"', b'"', .., b'"', b'"', b'"'] => Some((3, &literal[3..n - 3])),
-        [b'"', b'"', b'"', ..] => None,
-        [b'"', .., b'"'] => Some((1, &literal[1..n - 1])),
-        _ => None,
-    }
-}
-
-fn has_backslash(text: &[u8]) -> bool
-    ensures { result ≡ has 92 text.now }
-{
-    for b in text {
-        if *b == b'\\' {
-            return true;
+impl<'a> Token<'a> {
+    // What stands between the quotes.
+    fn unquoted(&self) -> Option<Token<'a>>
+        ensures { option_map {U = Span × List ℕ} (λ t. (t.span, t.text.now)) result ≡ option_map (λ p. (place_in self.now.span p.0 (p.0 + length p.1), p.1)) (inner self.now.text.now) }
+    {
+        let bytes = self.text.as_bytes();
+        let n = bytes.len();
+        match bytes {
+            [b'"', b'"', b'"', .., b'"', b'"', b'"'] => Some(self.part(3, n - 3)),
+            [b'"', b'"', b'"', ..] => None,
+            [b'"', .., b'"'] => Some(self.part(1, n - 1)),
+            _ => None,
         }
     }
-    false
-}
 
-// The refusal of a bad escape, `at` bytes behind the quotes: at the backslash and the next character, if there is one.
-fn escape_refusal(text: &str, at: usize, span: Span, quotes: usize) -> Refusal
-    requires { (at < length text.now) × ((slice_index text.now at ≡ 92) × (quotes + length text.now ≤ length_of span)) }
-    ensures { result ≡ escape_refusal span quotes text.now (drop at text.now) }
-{
-    let start = quotes + at;
-    match text[at + 1..].chars().next() {
-        Some(c) => Refusal::InvalidEscape(place_in(span, start, start + 1 + c.len_utf8())),
-        None => Refusal::BadToken(span),
+    // The place of a bad escape: the backslash and the next character, if there is one.
+    fn escape_place(&self, at: usize) -> Option<Span>
+        requires { (at < length self.now.text.now) × (slice_index self.now.text.now at ≡ 92) }
+        ensures { result ≡ escape_place self.now.span self.now.text.now (drop at self.now.text.now) }
+    {
+        let next = self.text[at + 1..].chars().next()?;
+        Some(self.place(at, at + 1 + next.len_utf8()))
     }
-}
 
-fn as_string(
-    literal: &str,
-    span: Span,
-    text: &mut [u8],
-    from: usize,
-) -> Result<StringValue, Refusal>
-    requires { length literal.now ≤ length_of span }
-    ensures value { result ≡ as_string literal.now span from }
-    ensures after { text.new ≡ overlay text.old from (decoded_in literal.now) }
-{
-    let Some((quotes, inner)) = strip_quotes(literal) else {
-        return Err(Refusal::BadToken(span));
-    };
-    if !has_backslash(inner.as_bytes()) {
-        return Ok(StringValue::Source(place_in(span, quotes, quotes + inner.len())));
-    }
-    match unescape(inner.as_bytes(), text, from) {
-        Ok(len) => Ok(StringValue::Decoded { start: from, len }),
-        Err(at) => Err(escape_refusal(inner, at, span, quotes)),
+    fn as_string(&self, text: &mut Lent<u8>) -> Result<StringValue, Refusal>
+        ensures value { result ≡ as_string self.now.text.now self.now.span text.old.used }
+        ensures items { text.new.items.now ≡ overlay text.old.items.now text.old.used (decoded_in self.now.text.now) }
+        ensures used { text.new.used ≡ counted_all text.old.used (decoded_in self.now.text.now) }
+        ensures same { text.new.items.ghost_name ≡ text.old.items.ghost_name }
+    {
+        let Some(inner) = self.unquoted() else {
+            return Err(Refusal::BadToken(self.span));
+        };
+        let bytes = inner.text.as_bytes();
+        if !bytes.contains(&b'\\') {
+            return Ok(StringValue::Source(inner.span));
+        }
+        let start = text.used;
+        match unescape(bytes, text) {
+            Ok(len) => Ok(StringValue::Decoded { start, len }),
+            Err(at) => Err(
+                inner
+                    .escape_place(at)
+                    .map_or(Refusal::BadToken(self.span), Refusal::InvalidEscape),
+            ),
+        }
     }
 }
 
 // The string literal that a span of the source covers.
-// With a backslash, what it stands for is written to `text` from `from` on, as far as it fits and up to a bad escape.
-pub fn string_lit(
-    source: &[u8],
-    span: Span,
-    text: &mut [u8],
-    from: usize,
-) -> Result<StringValue, Refusal>
-    ensures value { result ≡ string_of source.now span from }
-    ensures after { text.new ≡ overlay text.old from (decoded_bytes source.now span) }
+// With a backslash, what it stands for is put behind what is used of `text`, as far as it fits and up to a bad escape.
+pub fn string_lit(source: &[u8], span: Span, text: &mut Lent<u8>) -> Result<StringValue, Refusal>
+    ensures value { result ≡ string_of source.now span text.old.used }
+    ensures items { text.new.items.now ≡ overlay text.old.items.now text.old.used (decoded_bytes source.now span) }
+    ensures used { text.new.used ≡ counted_all text.old.used (decoded_bytes source.now span) }
+    ensures same { text.new.items.ghost_name ≡ text.old.items.ghost_name }
 {
-    as_string(get_source_str(source, span)?, span, text, from)
+    Token::of(source, span)?.as_string(text)
 }

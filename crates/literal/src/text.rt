@@ -43,12 +43,8 @@ pub fn get_source_str(source: &[u8], span: Span) -> Result<&str, Refusal>
     ensures value { seen result ≡ text_of source.now span }
     ensures bound { IfOk result (λ t. length t.now ≤ length_of span) }
 {
-    let bytes = get_source(source, span);
-    match from_utf8(bytes) {
-        Ok(text) => Ok(text),
-        Err(e) => {
-            let front = e.valid_up_to();
-            Err(Refusal::InvalidUTF8(place_in(span, front, front + 1)))
-        }
-    }
+    from_utf8(get_source(source, span)).map_err(|e| {
+        let front = e.valid_up_to();
+        Refusal::InvalidUTF8(place_in(span, front, front + 1))
+    })
 }

@@ -1,10 +1,12 @@
 ghost use Rattle.std.specs.Prelude.{◌≡◌, ◌<◌, IfSome};
+ghost use Rattle.lent.specs.Lists.{overlay};
 ghost use Rattle.literal.specs.Escapes.{hex_of, reading};
-ghost use Rattle.literal.specs.Machine.{step_of, held_by, Small, count_of};
-ghost use Rattle.literal.specs.Memory.{overlay};
-ghost use Rattle.literal.specs.declared.unescape.Next.TheVariants.{Emit, Go, Bad};
+ghost use Rattle.literal.specs.Machine.{step_of, held_by, Small, SmallStep, count_of};
+ghost use Rattle.literal.specs.Memory.{counted_all};
 
-// What the unescaper has read of an escape.
+use lent::Lent;
+
+// What the unescaper has read of an escape. An escape is read byte by byte, by what came before: a rule of the project.
 #[derive(Clone, Copy)]
 pub enum State {
     Plain,
@@ -13,51 +15,41 @@ pub enum State {
     AfterDigit(u8),
 }
 
-// What a byte leads to: a byte to write, a further state, or a bad escape.
-pub enum Next {
+// What a byte leads to: a byte to write, or a further state.
+pub enum Step {
     Emit(u8),
     Go(State),
-    Bad,
 }
 
 fn hex_digit(byte: u8) -> Option<u8>
     ensures value { result ≡ hex_of byte }
     ensures bound { IfSome result (λ v. v < 16) }
 {
-    match byte {
-        b'0'..=b'9' => Some(byte - b'0'),
-        b'a'..=b'f' => Some(byte - b'a' + 10),
-        b'A'..=b'F' => Some(byte - b'A' + 10),
-        _ => None,
-    }
+    Some(char::from(byte).to_digit(16)? as u8)
 }
 
 impl State {
-    fn step(self, byte: u8) -> Next
+    // Absent where the byte makes a bad escape.
+    fn step(self, byte: u8) -> Option<Step>
         requires { Small self }
         ensures value { result ≡ step_of self byte }
-        ensures small { elim result [ Emit d ↦ Unit {0} | Go s ↦ Small s | Bad ↦ Unit {0} ] }
+        ensures small { IfSome result SmallStep }
     {
-        match (self, byte) {
-            (State::Plain, b'\\') => Next::Go(State::AfterBackslash),
-            (State::Plain, b) => Next::Emit(b),
-            (State::AfterBackslash, b'\\') => Next::Emit(b'\\'),
-            (State::AfterBackslash, b'"') => Next::Emit(b'"'),
-            (State::AfterBackslash, b'n') => Next::Emit(b'\n'),
-            (State::AfterBackslash, b'r') => Next::Emit(b'\r'),
-            (State::AfterBackslash, b't') => Next::Emit(b'\t'),
-            (State::AfterBackslash, b'0') => Next::Emit(0),
-            (State::AfterBackslash, b'x') => Next::Go(State::AfterX),
-            (State::AfterBackslash, _) => Next::Bad,
-            (State::AfterX, b) => match hex_digit(b) {
-                Some(v) => Next::Go(State::AfterDigit(v)),
-                None => Next::Bad,
-            },
-            (State::AfterDigit(h), b) => match hex_digit(b) {
-                Some(v) => Next::Emit(16 * h + v),
-                None => Next::Bad,
-            },
-        }
+        let step = match (self, byte) {
+            (State::Plain, b'\\') => Step::Go(State::AfterBackslash),
+            (State::Plain, b) => Step::Emit(b),
+            (State::AfterBackslash, b'\\') => Step::Emit(b'\\'),
+            (State::AfterBackslash, b'"') => Step::Emit(b'"'),
+            (State::AfterBackslash, b'n') => Step::Emit(b'\n'),
+            (State::AfterBackslash, b'r') => Step::Emit(b'\r'),
+            (State::AfterBackslash, b't') => Step::Emit(b'\t'),
+            (State::AfterBackslash, b'0') => Step::Emit(0),
+            (State::AfterBackslash, b'x') => Step::Go(State::AfterX),
+            (State::AfterBackslash, _) => return None,
+            (State::AfterX, b) => Step::Go(State::AfterDigit(hex_digit(b)?)),
+            (State::AfterDigit(h), b) => Step::Emit(16 * h + hex_digit(b)?),
+        };
+        Some(step)
     }
 
     // How many bytes of an escape came before.
@@ -73,27 +65,30 @@ impl State {
     }
 }
 
-// Writes what the text stands for to `out`, from `from` on, as far as it fits and up to a bad escape.
+// Puts what the text stands for behind what is used of `out`, as far as it fits and up to a bad escape.
 // Answers how many bytes it stands for, or where the bad escape begins.
-pub(crate) fn unescape(text: &[u8], out: &mut [u8], from: usize) -> Result<usize, usize>
+pub(crate) fn unescape(text: &[u8], out: &mut Lent<u8>) -> Result<usize, usize>
     ensures value { result ≡ count_of text.now }
-    ensures after { out.new ≡ overlay out.old from (reading text.now).bytes }
+    ensures items { out.new.items.now ≡ overlay out.old.items.now out.old.used (reading text.now).bytes }
+    ensures used { out.new.used ≡ counted_all out.old.used (reading text.now).bytes }
+    ensures same { out.new.items.ghost_name ≡ out.old.items.ghost_name }
 {
-    let room = out.len().saturating_sub(from);
+    // Memory is no longer than its counter can count.
+    prove!(out.items.len() <= usize::MAX);
     let mut state = State::Plain;
     let mut n = 0;
     for (i, b) in text.iter().enumerate() {
-        match state.step(*b) {
-            Next::Go(next) => state = next,
-            Next::Emit(byte) => {
-                if n < room {
-                    out[from + n] = byte;
-                }
+        let Some(step) = state.step(*b) else {
+            return Err(i - state.held());
+        };
+        state = match step {
+            Step::Go(next) => next,
+            Step::Emit(byte) => {
+                out.push(byte);
                 n += 1;
-                state = State::Plain;
+                State::Plain
             }
-            Next::Bad => return Err(i - state.held()),
-        }
+        };
     }
     match state {
         State::Plain => Ok(n),

@@ -1,153 +1,179 @@
 ghost use Rattle.std.specs.Prelude.{◌<◌};
 
+use lent::Lent;
 use literal::{
-    Integer, StringValue, float_lit, get_source_str, integer_lit, regexp_lit, string_lit,
+    Integer, Regexp, StringValue, float_lit, get_source_str, integer_lit, regexp_lit, string_lit,
 };
 use refusal::Refusal;
 use std::alloc::{AllocError, Global};
+use std::fmt;
 use syntax::Span;
 
 // Room for what the strings of the table stand for.
 const ROOM: usize = 256;
 
-fn hex_digit(byte: u8) -> u8
+// What a line of the table asks for, by its first letter.
+#[derive(Clone, Copy, PartialEq, Eq)]
+pub enum Kind {
+    Integer,
+    Minus,
+    Name,
+    Float,
+    String,
+    Regexp,
+}
+
+impl From<&str> for Kind {
+    fn from(letter: &str) -> Kind {
+        match letter {
+            "i" => Kind::Integer,
+            "m" => Kind::Minus,
+            "n" => Kind::Name,
+            "f" => Kind::Float,
+            "s" => Kind::String,
+            _ => Kind::Regexp,
+        }
+    }
+}
+
+// What a literal is; `to_string` gives the table's words, which are not those of the program, so that each has its own.
+#[derive(Clone, Copy)]
+enum Meaning<'a> {
+    Integer(Integer),
+    Minus,
+    Name,
+    Float(f64),
+    Source(Span),
+    Decoded(&'a [u8]),
+    Regexp(Regexp),
+}
+
+impl fmt::Display for Meaning<'_> {
+    fn fmt<W: fmt::Write>(&self, f: &mut fmt::Formatter<W>) -> fmt::Result {
+        match self {
+            Meaning::Integer(integer) => {
+                let sign = if integer.unsigned {
+                    "unsigned"
+                } else {
+                    "signed"
+                };
+                let name = integer.name.range();
+                write!(f, "integer:{}:{sign}:{name:?}", integer.value)
+            }
+            Meaning::Minus => f.write_str("minus"),
+            Meaning::Name => f.write_str("name"),
+            Meaning::Float(value) if value.is_nan() => f.write_str("nan"),
+            Meaning::Float(value) => write!(f, "float:{:016x}", value.to_bits()),
+            Meaning::Source(span) => write!(f, "source:{:?}", span.range()),
+            Meaning::Decoded([]) => f.write_str("decoded:-"),
+            Meaning::Decoded(bytes) => write!(f, "decoded:{}", Hex(bytes)),
+            Meaning::Regexp(regexp) => {
+                let body = regexp.body.range();
+                let modifiers = match (regexp.case_insensitive, regexp.dot_matches_new_line) {
+                    (true, true) => "is",
+                    (true, false) => "i",
+                    (false, true) => "s",
+                    (false, false) => "-",
+                };
+                write!(f, "regexp:{body:?}:{modifiers}")
+            }
+        }
+    }
+}
+
+#[derive(Clone, Copy)]
+struct Hex<'a>(&'a [u8]);
+
+impl fmt::Display for Hex<'_> {
+    fn fmt<W: fmt::Write>(&self, f: &mut fmt::Formatter<W>) -> fmt::Result {
+        for byte in self.0 {
+            write!(f, "{byte:02x}")?;
+        }
+        Ok(())
+    }
+}
+
+// The value of a small hexadecimal digit, 0 for any other byte.
+fn digit(byte: u8) -> u8
     ensures { result < 16 }
 {
-    match byte {
-        b'0'..=b'9' => byte - b'0',
-        b'a'..=b'f' => byte - b'a' + 10,
-        _ => 0,
+    if byte.is_ascii_uppercase() {
+        return 0;
     }
+    char::from(byte).to_digit(16).unwrap_or(0) as u8
 }
 
 // Some blanks, and the bytes that a token's hexadecimal digits write.
 fn source(heap: Global, blanks: usize, token: &str) -> Result<Vec<u8>, AllocError> {
-    let mut bytes = Vec::new(heap);
-    for _ in 0..blanks {
-        bytes.push(b' ')?;
-    }
-    if token == "-" {
-        return Ok(bytes);
-    }
-    for pair in token.as_bytes().chunks(2) {
-        if let [high, low] = pair {
-            bytes.push(hex_digit(*high) * 16 + hex_digit(*low))?;
+    let mut bytes = vec![in heap; b' '; blanks]?;
+    if token != "-" {
+        let (pairs, _) = token.as_bytes().as_chunks::<2>();
+        for [high, low] in pairs {
+            bytes.push(digit(*high) * 16 + digit(*low))?;
         }
     }
     Ok(bytes)
 }
 
-fn refused(heap: Global, refusal: Refusal) -> Result<String, AllocError> {
-    let number = refusal.number();
-    let Span { start, end } = refusal.place();
-    format!(in heap; "refused:{number}:{start}..{end}")
-}
-
-fn integer(heap: Global, integer: Integer) -> Result<String, AllocError> {
-    let value = integer.value;
-    let sign = if integer.unsigned {
-        "unsigned"
-    } else {
-        "signed"
-    };
-    let Span { start, end } = integer.name;
-    format!(in heap; "integer:{value}:{sign}:{start}..{end}")
-}
-
-fn minus(heap: Global, source: &[u8], span: Span, whole: Span) -> Result<String, AllocError> {
-    let literal = match integer_lit(source, span) {
-        Ok(literal) => literal,
-        Err(refusal) => return refused(heap, refusal),
-    };
-    if let Err(refusal) = get_source_str(source, whole) {
-        return refused(heap, refusal);
-    }
-    match literal.negated(whole) {
-        Ok(Some(folded)) => integer(heap, folded),
-        Ok(None) => String::from_str(heap, "minus"),
-        Err(refusal) => refused(heap, refusal),
-    }
-}
-
-fn float(heap: Global, value: f64) -> Result<String, AllocError> {
-    if value.is_nan() {
-        return String::from_str(heap, "nan");
-    }
-    let bits = value.to_bits();
-    format!(in heap; "float:{bits:016x}")
-}
-
-fn decoded(heap: Global, bytes: &[u8]) -> Result<String, AllocError> {
-    let mut text = String::from_str(heap, "decoded:")?;
-    if bytes.is_empty() {
-        text.push_str("-")?;
-    }
-    for byte in bytes {
-        let b = *byte;
-        let digits = format!(in heap; "{b:02x}")?;
-        text.push_str(digits.as_str())?;
-    }
-    Ok(text)
-}
-
-fn string(heap: Global, source: &[u8], span: Span) -> Result<String, AllocError> {
-    let mut text = [0u8; ROOM];
-    match string_lit(source, span, &mut text, 0) {
-        Ok(StringValue::Source(Span { start, end })) => format!(in heap; "source:{start}..{end}"),
-        Ok(StringValue::Decoded { len, .. }) => decoded(heap, &text[0..len.min(ROOM)]),
-        Err(refusal) => refused(heap, refusal),
-    }
-}
-
-fn regexp(heap: Global, source: &[u8], span: Span) -> Result<String, AllocError> {
-    match regexp_lit(source, span) {
-        Ok(regexp) => {
-            let Span { start, end } = regexp.body;
-            let modifiers = match (regexp.case_insensitive, regexp.dot_matches_new_line) {
-                (true, true) => "is",
-                (true, false) => "i",
-                (false, true) => "s",
-                (false, false) => "-",
-            };
-            format!(in heap; "regexp:{start}..{end}:{modifiers}")
+// The answer for the literal at a span of the source; behind a minus the span begins at that.
+fn read<'a>(
+    kind: Kind,
+    source: &'a [u8],
+    span: Span,
+    text: &'a mut [u8],
+) -> Result<Meaning<'a>, Refusal> {
+    Ok(match kind {
+        Kind::Integer => Meaning::Integer(integer_lit(source, span)?),
+        Kind::Minus => minus(source, span)?,
+        Kind::Name => {
+            get_source_str(source, span)?;
+            Meaning::Name
         }
-        Err(refusal) => refused(heap, refusal),
-    }
+        Kind::Float => Meaning::Float(float_lit(source, span)?),
+        Kind::String => string(source, span, text)?,
+        Kind::Regexp => Meaning::Regexp(regexp_lit(source, span)?),
+    })
+}
+
+fn minus(source: &[u8], whole: Span) -> Result<Meaning<'static>, Refusal> {
+    let span = Span {
+        start: whole.start.saturating_add(1),
+        end: whole.end,
+    };
+    let literal = integer_lit(source, span)?;
+    get_source_str(source, whole)?;
+    Ok(match literal.negated(whole)? {
+        Some(folded) => Meaning::Integer(folded),
+        None => Meaning::Minus,
+    })
+}
+
+fn string<'a>(source: &[u8], span: Span, text: &'a mut [u8]) -> Result<Meaning<'a>, Refusal> {
+    let mut lent = Lent {
+        items: &mut *text,
+        used: 0,
+    };
+    Ok(match string_lit(source, span, &mut lent)? {
+        StringValue::Source(part) => Meaning::Source(part),
+        StringValue::Decoded { len, .. } => Meaning::Decoded(text.get(..len).unwrap_or(text)),
+    })
 }
 
 // What a literal of a kind, some blanks behind the source's start, is, in the table's words.
-pub fn answer(heap: Global, kind: &str, blanks: &str, token: &str) -> Result<String, AllocError> {
-    let before = match blanks.parse::<u8>() {
-        Ok(n) => n as usize,
-        Err(_) => 0,
+pub fn answer(heap: Global, kind: Kind, blanks: &str, token: &str) -> Result<String, AllocError> {
+    let before = blanks.parse::<u8>().unwrap_or(0);
+    let minus = usize::from(kind == Kind::Minus);
+    let bytes = source(heap, usize::from(before) + minus, token)?;
+    let span = Span {
+        start: u32::from(before),
+        end: bytes.len().min(1_000_000) as u32,
     };
-    let bytes = source(heap, if kind == "m" { before + 1 } else { before }, token)?;
-    let end = bytes.len().min(1_000_000) as u32;
-    let start = before as u32;
-    let span = Span { start, end };
-    match kind {
-        "i" => match integer_lit(&bytes, span) {
-            Ok(literal) => integer(heap, literal),
-            Err(refusal) => refused(heap, refusal),
-        },
-        "m" => minus(
-            heap,
-            &bytes,
-            Span {
-                start: start + 1,
-                end,
-            },
-            span,
-        ),
-        "n" => match get_source_str(&bytes, span) {
-            Ok(_) => String::from_str(heap, "name"),
-            Err(refusal) => refused(heap, refusal),
-        },
-        "f" => match float_lit(&bytes, span) {
-            Ok(value) => float(heap, value),
-            Err(refusal) => refused(heap, refusal),
-        },
-        "s" => string(heap, &bytes, span),
-        _ => regexp(heap, &bytes, span),
+    let mut text = [0; ROOM];
+    match read(kind, &bytes, span, &mut text) {
+        Ok(answer) => answer.to_string(heap),
+        Err(refusal) => {
+            let (number, place) = (refusal.number(), refusal.place().range());
+            format!(in heap; "refused:{number}:{place:?}")
+        }
     }
 }

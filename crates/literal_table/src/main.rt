@@ -11,7 +11,7 @@ use std::{fs, io};
 
 fn main(rt: HostRuntime) -> io::Result<()> {
     let text = fs::read_to_string(&rt, "literals.txt")?;
-    let mut counts = Counts::new();
+    let mut counts = Counts::default();
     for line in text.as_str().lines() {
         counts.replay(&rt, line)?;
     }

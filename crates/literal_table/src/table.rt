@@ -1,8 +1,31 @@
-use crate::answer::answer;
+use crate::answer::{Kind, answer};
 use std::io;
 
+// A line of the table.
+#[derive(Clone, Copy)]
+struct Row<'a> {
+    kind: Kind,
+    blanks: &'a str,
+    token: &'a str,
+    mark: &'a str,
+    answer: &'a str,
+}
+
+impl<'a> Row<'a> {
+    fn read(line: &'a str) -> Option<Row<'a>> {
+        let mut words = line.split(' ');
+        Some(Row {
+            kind: Kind::from(words.next()?),
+            blanks: words.next()?,
+            token: words.next()?,
+            mark: words.next()?,
+            answer: words.next()?,
+        })
+    }
+}
+
 // What the program has seen of the table.
-#[derive(Drop)]
+#[derive(Clone, Copy, Default)]
 pub struct Counts {
     integers: usize,
     minuses: usize,
@@ -14,67 +37,38 @@ pub struct Counts {
     mismatches: usize,
 }
 
-fn first_word(text: &str) -> &str {
-    match text.split_once(' ') {
-        Some((word, _)) => word,
-        None => text,
-    }
+fn more(count: &mut usize) {
+    *count = count.saturating_add(1);
 }
 
 impl Counts {
-    pub fn new() -> Counts {
-        Counts {
-            integers: 0,
-            minuses: 0,
-            names: 0,
-            floats: 0,
-            strings: 0,
-            regexps: 0,
-            differences: 0,
-            mismatches: 0,
-        }
-    }
-
-    fn count(&mut self, kind: &str) {
-        match kind {
-            "i" => self.integers = self.integers.saturating_add(1),
-            "m" => self.minuses = self.minuses.saturating_add(1),
-            "n" => self.names = self.names.saturating_add(1),
-            "f" => self.floats = self.floats.saturating_add(1),
-            "s" => self.strings = self.strings.saturating_add(1),
-            _ => self.regexps = self.regexps.saturating_add(1),
-        }
+    fn count(&mut self, kind: Kind) {
+        more(match kind {
+            Kind::Integer => &mut self.integers,
+            Kind::Minus => &mut self.minuses,
+            Kind::Name => &mut self.names,
+            Kind::Float => &mut self.floats,
+            Kind::String => &mut self.strings,
+            Kind::Regexp => &mut self.regexps,
+        })
     }
 
     // Compares one line's answer with ours, and prints a line that differs.
     pub fn replay(&mut self, rt: &HostRuntime, line: &str) -> io::Result<()> {
-        let Some((kind, rest)) = line.split_once(' ') else {
-            return self.unreadable(rt, line);
+        let Some(row) = Row::read(line) else {
+            more(&mut self.mismatches);
+            return println!(rt; "{line}: not read");
         };
-        let Some((blanks, rest)) = rest.split_once(' ') else {
-            return self.unreadable(rt, line);
-        };
-        let Some((token, rest)) = rest.split_once(' ') else {
-            return self.unreadable(rt, line);
-        };
-        let Some((mark, answers)) = rest.split_once(' ') else {
-            return self.unreadable(rt, line);
-        };
-        if mark == "!" {
-            self.differences = self.differences.saturating_add(1);
+        if row.mark == "!" {
+            more(&mut self.differences);
         }
-        self.count(kind);
-        let given = answer(rt.alloc(), kind, blanks, token)?;
-        if given.as_str() != first_word(answers) {
-            self.mismatches = self.mismatches.saturating_add(1);
+        self.count(row.kind);
+        let given = answer(rt.alloc(), row.kind, row.blanks, row.token)?;
+        if given.as_str() != row.answer {
+            more(&mut self.mismatches);
             println!(rt; "{line}: {given}")?;
         }
         Ok(())
-    }
-
-    fn unreadable(&mut self, rt: &HostRuntime, line: &str) -> io::Result<()> {
-        self.mismatches = self.mismatches.saturating_add(1);
-        println!(rt; "{line}: not read")
     }
 
     pub fn print(&self, rt: &HostRuntime) -> io::Result<()> {

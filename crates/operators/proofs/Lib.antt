@@ -3,6 +3,6 @@ pub mod Exists
 pub mod Left
 pub mod Climbs
 pub mod Table
-pub mod Makes
+pub mod Equal
 pub mod Shown
 pub mod Reading

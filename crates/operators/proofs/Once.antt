@@ -29,8 +29,8 @@ module _ {A O : Type 0} where
   each_in P (then a p x) m o h = each_in P x m o h.1
 
   pub never_lone : (x y : Ops A O) (o : O) (a : A) → joined x o y ≡ lone a → ⊥
-  never_lone (lone b) y o a e = let z : ◌≡◌ {A = ℕ} 0 1 = cc in omega arith
-  never_lone (then b p x) y o a e = let z : ◌≡◌ {A = ℕ} 0 1 = cc in omega arith
+  never_lone (lone b) y o a e = cc
+  never_lone (then b p x) y o a e = cc
 
   module _ (level : O → ℕ) where
     pub once : (g h : Group A O) → Keeps level g → Keeps level h → flat g ≡ flat h → g ≡ h

@@ -1,4 +1,4 @@
-use Rattle.std.proofs.Common.{◌≡◌, ℕ, refl, arith}
+use Rattle.std.proofs.Common.{ℕ, refl}
 use Rattle.operators.specs.Levels.{level_of}
 use Rattle.operators.specs.Nodes.{node_of, merging_of}
 use Rattle.operators.specs.Groups.{grouped}
@@ -12,7 +12,7 @@ shown a b c =
       plain = refl;
       left = refl;
       right = refl;
-      other = λ e. let z : ◌≡◌ {A = ℕ} 0 1 = cc in omega arith;
+      other = λ e. cc;
       dotted = refl;
       compared = refl;
       stronger = refl;

@@ -1,5 +1,5 @@
 -- The table of levels: each kind stands in it once at most, and what is looked up is where it stands.
-use Rattle.std.proofs.Common.{◌≡◌, ℕ, suc, ◌+◌, ◌≤◌, Bool, true, false, cond, ◌&&◌, ◌||◌, eqb, List, [], ◌∷◌, length, is_some, Some, None, Option, unwrap_or, sym, refl, ap, ◌∙◌, subst, arith, eqb-true}
+use Rattle.std.proofs.Common.{◌≡◌, ℕ, suc, ◌+◌, ◌≤◌, Bool, true, false, cond, ◌&&◌, ◌||◌, eqb, List, [], ◌∷◌, length, is_some, Some, None, Option, unwrap_or, refl, ap, ◌∙◌, subst, arith, eqb-true}
 use mathlib.Core.List.{Memᴰ}
 use Rattle.kinds.specs.Kinds.{number_of, same}
 use Rattle.kinds.specs.declared.kind.SyntaxKind.{SyntaxKind}
@@ -8,7 +8,7 @@ use Rattle.operators.specs.Levels.{levels, among, level_from, level_of, is_opera
 use Rattle.operators.specs.Levels.InRow.{first, further}
 
 member : (k : SyntaxKind) (os : List SyntaxKind) → among k os ≡ true → Memᴰ k os
-member k [] e = let z : ◌≡◌ {A = ℕ} 0 1 = cc in absurd (omega arith)
+member k [] e = cc
 member k (o ∷ os) e = go (same k o) refl e (member k os)
   where
     go : (b : Bool) → same k o ≡ b → b || among k os ≡ true → (among k os ≡ true → Memᴰ k os) → Memᴰ k (o ∷ os)
@@ -20,7 +20,7 @@ abbrev Found : ℕ → List (List SyntaxKind) → SyntaxKind → ℕ → Type 0
 Found s rows k n = (m : ℕ) × (suc n ≡ s + m) × InRow k rows m
 
 found : (s : ℕ) (rows : List (List SyntaxKind)) (k : SyntaxKind) (n : ℕ) → level_from s rows k ≡ Some n → Found s rows k n
-found s [] k n e = let z : ◌≡◌ {A = ℕ} 0 1 = cc in absurd (omega arith)
+found s [] k n e = cc
 found s (os ∷ rows) k n e = go (among k os) refl e (found (suc s) rows k n)
   where
     go : (b : Bool) → among k os ≡ b → cond b (Some s) (level_from (suc s) rows k) ≡ Some n → (level_from (suc s) rows k ≡ Some n → Found (suc s) rows k n) → Found s (os ∷ rows) k n
@@ -44,7 +44,7 @@ rows_from n [] = true
 rows_from n (os ∷ rows) = row_at n os && rows_from (suc n) rows
 
 has : (n : ℕ) (l : Option ℕ) → has_level n l ≡ true → l ≡ Some n
-has n None e = let z : ◌≡◌ {A = ℕ} 0 1 = cc in absurd (omega arith)
+has n None e = cc
 has n (Some m) e = ap (λ i. Some i) (eqb-true m n e)
 
 level_in_row : (n : ℕ) (k : SyntaxKind) (os : List SyntaxKind) → row_at n os ≡ true → Memᴰ k os → level_of k ≡ Some n
@@ -81,18 +81,16 @@ level_row k n e =
     let same_number : r.0 ≡ n = omega arith in
     subst (λ (m : ℕ). InRow k levels m) same_number r.2
 
-of_table : (k : SyntaxKind) (l : Option ℕ) → level_of k ≡ l → OfTable k l
-of_table k None e = λ n i. let f = in_row k n i in let z : ◌≡◌ {A = ℕ} 0 1 = cc in omega arith
+pub of_table : (k : SyntaxKind) (l : Option ℕ) → level_of k ≡ l → OfTable k l
+unfolding OfTable
+of_table k None e = λ n i. let f = in_row k n i in cc
 of_table k (Some n) e =
     let row = level_row k n e in
     let within = row_bound k levels n row in
     (row, λ m i. let f = in_row k m i in cc, within.0, within.1)
 
-pub table : (k : SyntaxKind) (l : Option ℕ) → l ≡ level_of k → OfTable k l
-table k l e = of_table k l (sym e)
-
 counts : (l : Option ℕ) → is_some l ≡ true → l ≡ Some (unwrap_or l 0)
-counts None e = let z : ◌≡◌ {A = ℕ} 0 1 = cc in absurd (omega arith)
+counts None e = cc
 counts (Some n) e = refl
 
 -- an operator's level as a plain number is its level

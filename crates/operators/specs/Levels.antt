@@ -49,6 +49,6 @@ pub data InRow (k : SyntaxKind) : List (List SyntaxKind) → ℕ → Type 0 wher
   further : {row : List SyntaxKind} {rows : List (List SyntaxKind)} {n : ℕ} → InRow k rows n → InRow k (row ∷ rows) (suc n)
 
 -- a level is the number of the one row that has the kind, from 1 to 11; a kind without a level is in no row
-abbrev pub OfTable : SyntaxKind → Option ℕ → Type 0
+unfoldable pub OfTable : SyntaxKind → Option ℕ → Type 0
 OfTable k None = (n : ℕ) → InRow k levels n → ⊥
 OfTable k (Some n) = InRow k levels n × ((m : ℕ) → InRow k levels m → m ≡ n) × (1 ≤ n) × (n ≤ 11)

@@ -1,13 +1,15 @@
 ghost use Rattle.std.specs.Prelude.{◌≡◌, is_some};
 ghost use Rattle.operators.specs.Levels.{is_operator};
-ghost use Rattle.operators.specs.Nodes.{nodes, made_by, node_of};
+ghost use Rattle.operators.specs.Nodes.{node_of};
 
 use kinds::SyntaxKind;
 use tree::NodeKind;
 
-// The table of nodes as a match.
-fn node_of(kind: SyntaxKind) -> Option<NodeKind>
-    ensures { result ≡ made_by nodes kind }
+// The kind of node that an operator makes.
+#[tactic(auto, unfolding(crate::specs::Nodes::node_of, crate::specs::Levels::level_of))]
+pub fn node(kind: SyntaxKind) -> Option<NodeKind>
+    ensures value { result ≡ node_of kind }
+    ensures test { is_some result ≡ is_operator kind }
 {
     match kind {
         SyntaxKind::OR_KW => Some(NodeKind::Or),
@@ -39,12 +41,4 @@ fn node_of(kind: SyntaxKind) -> Option<NodeKind>
         SyntaxKind::DOT => Some(NodeKind::FieldAccess),
         _ => None,
     }
-}
-
-// The kind of node that an operator makes.
-pub fn node(kind: SyntaxKind) -> Option<NodeKind>
-    ensures value { result ≡ node_of kind }
-    ensures test { is_some result ≡ is_operator kind }
-{
-    node_of(kind)
 }

@@ -1,17 +1,20 @@
 ghost use Rattle.std.specs.Prelude.{◌≡◌};
-ghost use Rattle.operators.specs.Levels.{levels, level_from, level_of, OfTable};
+ghost use Rattle.operators.specs.Levels.{level_of, OfTable};
 
 use kinds::SyntaxKind;
 
-// The table of levels as a match.
-fn level_of(kind: SyntaxKind) -> Option<u8>
-    ensures { result ≡ level_from 1 levels kind }
+// How strongly an operator binds, from 1 (weakest) to 11, as a number, since levels are compared; other kinds are no operators.
+#[tactic(auto, using(crate::proofs::Table::of_table), unfolding(crate::specs::Levels::level_of))]
+pub fn level(kind: SyntaxKind) -> Option<u8>
+    ensures value { result ≡ level_of kind }
+    ensures cases { OfTable kind result }
 {
     match kind {
         SyntaxKind::OR_KW => Some(1),
         SyntaxKind::AND_KW => Some(2),
-        SyntaxKind::EQ | SyntaxKind::NE => Some(3),
-        SyntaxKind::CONTAINS_KW
+        SyntaxKind::EQ
+        | SyntaxKind::NE
+        | SyntaxKind::CONTAINS_KW
         | SyntaxKind::ICONTAINS_KW
         | SyntaxKind::STARTSWITH_KW
         | SyntaxKind::ISTARTSWITH_KW
@@ -29,12 +32,4 @@ fn level_of(kind: SyntaxKind) -> Option<u8>
         SyntaxKind::DOT => Some(11),
         _ => None,
     }
-}
-
-// How strongly an operator binds, from 1 (weakest) to 11; other kinds are no operators.
-pub fn level(kind: SyntaxKind) -> Option<u8>
-    ensures value { result ≡ level_of kind }
-    ensures cases { OfTable kind result }
-{
-    level_of(kind)
 }

@@ -1,140 +1,83 @@
 -- What is written of the trees that a link leads to.
-use Rattle.std.proofs.Common.{◌≡◌, ℕ, zero, suc, ◌+◌, ◌-◌, ◌<◌, ◌≤◌, Bool, true, false, cond, ◌&&◌, leb, List, ◌++◌, Some, None, Option, sym, refl, ap, ◌∙◌, arith, le-leb, leb-true}
-use Rattle.kinds.specs.At.{at}
-use Rattle.outline.specs.declared.print.View.{View}
+use Rattle.std.proofs.Common.{◌≡◌, ℕ, zero, suc, ◌+◌, ◌-◌, ◌<◌, ◌≤◌, Bool, true, false, ◌&&◌, nat_le, List, ◌++◌, Some, None, Option, sym, refl, ap, ◌∙◌, arith, append_assoc, inl, inr}
+use Rattle.std.proofs.lemmas.Bool.{cases_Bool}
+use Rattle.std.proofs.lemmas.Bool.Decides.{nat_tests}
+use Rattle.std.specs.List.{slice_get}
+use Rattle.outline.specs.declared.print.Shown.{Shown}
 use Rattle.tree.specs.declared.slot.Slot.{Slot}
-use Rattle.outline.specs.Shown.{node_text, broken_text, between_text, enter_text, leave_text, wrapped, trees_at, trees_text, below_text}
-
-both : (a b : Bool) → (a && b) ≡ true → (a ≡ true) × (b ≡ true)
-both true true e = (refl, refl)
-both true false e = absurd (let z : ◌≡◌ {A = ℕ} 0 1 = cc in omega arith)
-both false b e = absurd (let z : ◌≡◌ {A = ℕ} 0 1 = cc in omega arith)
+use Rattle.outline.specs.Shown.{node_text, broken_text, between_text, separator, trees_at, trees_text, tree_text, below_text}
 
 -- whether a link may be followed
 abbrev inside : ℕ → ℕ → ℕ → Bool
-inside low top n = leb low n && leb (suc n) top
+inside low top n = nat_le low n && nat_le (suc n) top
 
 inside_true : (low top n : ℕ) → inside low top n ≡ true → (low ≤ n) × (n < top)
-inside_true low top n e =
-    let p = both (leb low n) (leb (suc n) top) e in
-    (leb-true low n p.0, leb-true (suc n) top p.1)
+inside_true low top n e = (grind (arith, nat_tests), grind (arith, nat_tests))
 
 inside_from : (low top n : ℕ) → low ≤ n → n < top → inside low top n ≡ true
-inside_from low top n h k = ap (λ q. q && leb (suc n) top) (le-leb low n h) ∙ le-leb (suc n) top k
+inside_from low top n h k = grind (arith, nat_tests)
 
 inside_false : (low top n : ℕ) → ((low ≤ n) → (n < top) → ⊥) → inside low top n ≡ false
-inside_false low top n h = go (inside low top n) refl
-  where
-    go : (b : Bool) → inside low top n ≡ b → b ≡ false
-    go true e = absurd (let p = inside_true low top n e in h p.0 p.1)
-    go false e = refl
+inside_false low top n h = grind (arith, nat_tests)
 
-module _ (v : View) where
+module _ (v : Shown) where
   at_slot :
       (d link : ℕ) (o : Option Slot) (f g h k : Slot → List ℕ) → ((s : Slot) → f s ≡ g s) → ((s : Slot) → h s ≡ k s) →
       trees_at v d link o f h ≡ trees_at v d link o g k
   at_slot d link None f g h k p q = refl
-  at_slot d link (Some s) f g h k p q =
-      ap (λ x. node_text v d s ++ (wrapped v s.first x ++ (between_text v s.next ++ h s))) (p s)
-      ∙ ap (λ x. node_text v d s ++ (wrapped v s.first (g s) ++ (between_text v s.next ++ x))) (q s)
-
-  -- what is written with room for k links more, given whether the link may be followed
-  abbrev turn : (d low top n k : ℕ) → Bool → List ℕ
-  turn d low top n k b =
-      trees_at v d (suc n) (cond b (at v.slots.now n) None) (λ s. trees_text v k (d + 1) low n s.first)
-      (λ s. trees_text v k d (suc n) top s.next)
-
-  same_turn :
-      (d low top n f g : ℕ) →
-      (low ≤ n → n < top → (s : Slot) → trees_text v f (d + 1) low n s.first ≡ trees_text v g (d + 1) low n s.first) →
-      (low ≤ n → n < top → (s : Slot) → trees_text v f d (suc n) top s.next ≡ trees_text v g d (suc n) top s.next) →
-      (b : Bool) → inside low top n ≡ b → turn d low top n f b ≡ turn d low top n g b
-  same_turn d low top n f g p q true e =
-      let h = inside_true low top n e in
-      at_slot d (suc n) (at v.slots.now n) (λ s. trees_text v f (d + 1) low n s.first)
-      (λ s. trees_text v g (d + 1) low n s.first)
-      (λ s. trees_text v f d (suc n) top s.next)
-      (λ s. trees_text v g d (suc n) top s.next)
-      (p h.0 h.1)
-      (q h.0 h.1)
-  same_turn d low top n f g p q false e = refl
+  at_slot d link (Some s) f g h k p q = rw (p s, q s)
 
   -- no more links can follow one another than there is room for
   enough :
       (f g d low top link : ℕ) → top ≤ low + f → top ≤ low + g → trees_text v f d low top link ≡ trees_text v g d low top link
   enough f g d low top zero p q = refl
   enough zero zero d low top (suc n) p q = refl
-  enough zero (suc g) d low top (suc n) p q =
-      sym (ap (turn d low top n g) (inside_false low top n (λ a b. omega arith)))
-  enough (suc f) zero d low top (suc n) p q = ap (turn d low top n f) (inside_false low top n (λ a b. omega arith))
+  enough zero (suc g) d low top (suc n) p q = rw (inside_false low top n (λ a b. omega arith))
+  enough (suc f) zero d low top (suc n) p q = rw (inside_false low top n (λ a b. omega arith))
   enough (suc f) (suc g) d low top (suc n) p q =
-      same_turn d low top n f g
-      (λ a b s. enough f g (d + 1) low n s.first (omega arith) (omega arith))
-      (λ a b s. enough f g d (suc n) top s.next (omega arith) (omega arith))
-      (inside low top n)
-      refl
-
-  turned :
-      (room k d low top n : ℕ) (s : Slot) → room ≡ suc k → low ≤ n → n < top → top ≤ low + room → at v.slots.now n ≡ Some s →
-      trees_text v room d low top (suc n)
-      ≡ node_text v d s
-      ++ (below_text v d low n s.first ++ (between_text v s.next ++ trees_text v (top - suc n) d (suc n) top s.next))
-  turned room k d low top n s e h l r a =
-      let below_same = enough k (n - low) (d + 1) low n s.first (omega (arith, e)) (omega arith) in
-      let behind_same = enough k (top - suc n) d (suc n) top s.next (omega (arith, e)) (omega arith) in
-      ap (λ f. trees_text v f d low top (suc n)) e
-      ∙ ap (turn d low top n k) (inside_from low top n h l)
-      ∙ ap
-      (λ o.
-      trees_at v d (suc n) o (λ x. trees_text v k (d + 1) low n x.first) (λ x. trees_text v k d (suc n) top x.next))
-      a
-      ∙ ap
-      (λ x.
-      node_text v d s
-      ++ (wrapped v s.first x ++ (between_text v s.next ++ trees_text v k d (suc n) top s.next)))
-      below_same
-      ∙ ap
-      (λ x. node_text v d s ++ (below_text v d low n s.first ++ (between_text v s.next ++ x)))
-      behind_same
+      elim (cases_Bool (inside low top n)) [
+        | inl e ↦
+            let (above, below) = inside_true low top n e in
+            rw e
+            (at_slot d (suc n) (slice_get v.tree.slots.now n) _ _ _ _
+            (λ s. enough f g (d + 1) low n s.first (omega arith) (omega arith))
+            (λ s. enough f g d (suc n) top s.next (omega arith) (omega arith)))
+        | inr e ↦ rw e
+      ]
 
   -- a link that is followed
   pub followed :
-      (d low top link : ℕ) (s : Slot) → low < link → link ≤ top → at v.slots.now (link - 1) ≡ Some s →
+      (d low top link n : ℕ) (s : Slot) → link ≡ suc n → low ≤ n → n < top → slice_get v.tree.slots.now n ≡ Some s →
       trees_text v (top - low) d low top link
-      ≡ node_text v d s
-      ++ (below_text v d low (link - 1) s.first
-      ++ (between_text v s.next ++ trees_text v (top - link) d link top s.next))
-  followed d low top link s h l a =
-      let n : ℕ = link - 1 in
-      let e : link ≡ suc n = omega arith in
-      ap (λ k. trees_text v (top - low) d low top k) e
-      ∙ turned (top - low) ((top - low) - 1) d low top n s (omega arith) (omega arith) (omega arith) (omega arith) a
-      ∙ ap
-      (λ k.
-      node_text v d s
-      ++ (below_text v d low n s.first ++ (between_text v s.next ++ trees_text v (top - k) d k top s.next)))
-      (sym e)
-
-  stopped :
-      (room d low top n : ℕ) → ((low ≤ n) → (n < top) → ⊥) → trees_text v room d low top (suc n) ≡ broken_text v d (suc n)
-  stopped zero d low top n h = refl
-  stopped (suc k) d low top n h = ap (turn d low top n k) (inside_false low top n h)
+      ≡ tree_text v d low n s ++ (between_text v s.next ++ trees_text v (top - link) d link top s.next)
+  followed d low top link n s e h l a =
+      let k : ℕ = (top - low) - 1 in
+      let room : top - low ≡ suc k = omega arith in
+      let below_same = enough k (n - low) (d + 1) low n s.first (omega arith) (omega arith) in
+      let behind_same = enough k (top - suc n) d (suc n) top s.next (omega arith) (omega arith) in
+      ap (λ r. trees_text v r d low top link) room
+      ∙ rw (e, inside_from low top n h l, a, below_same, behind_same)
+      (sym (append_assoc (node_text v d s) (below_text v d low n s.first) _))
 
   -- a link that is broken
   pub broken :
-      (room d low top link : ℕ) → (link ≡ 0 → ⊥) → ((low < link) → (link ≤ top) → ⊥) →
+      (room d low top link n : ℕ) → link ≡ suc n → ((low ≤ n) → (n < top) → ⊥) →
       trees_text v room d low top link ≡ broken_text v d link
-  broken room d low top link z h =
-      let n : ℕ = link - 1 in
-      let e : link ≡ suc n = omega (arith, λ (q : link ≡ 0). z q) in
-      ap (λ k. trees_text v room d low top k) e
-      ∙ stopped room d low top n (λ a b. h (omega (arith, e)) (omega (arith, e)))
-      ∙ ap (λ k. broken_text v d k) (sym e)
+  broken zero d low top link n e h = rw e refl
+  broken (suc room) d low top link n e h = rw (e, inside_false low top n h)
 
-  -- the trees below a node that has some
-  pub below_some :
-      (d low top first : ℕ) → (first ≡ 0 → ⊥) →
-      below_text v d low top first
-      ≡ enter_text v.form ++ (trees_text v (top - low) (d + 1) low top first ++ leave_text v.form)
-  below_some d low top zero z = absurd (z refl)
-  below_some d low top (suc n) z = refl
+  -- what stands between a tree and the next
+  pub between_some : (next : ℕ) → (next ≡ 0 → ⊥) → between_text v next ≡ separator v.form
+  between_some zero h = absurd (h refl)
+  between_some (suc n) h = refl
+
+  -- one more tree is written
+  pub row_on :
+      (d low top link n : ℕ) (s : Slot) (done all : List ℕ) → link ≡ suc n → low ≤ n → n < top →
+      slice_get v.tree.slots.now n ≡ Some s → done ++ trees_text v (top - low) d low top link ≡ all →
+      ((done ++ tree_text v d low n s) ++ between_text v s.next) ++ trees_text v (top - link) d link top s.next ≡ all
+  row_on d low top link n s done all e h l a whole =
+      append_assoc (done ++ tree_text v d low n s) (between_text v s.next) _
+      ∙ append_assoc done (tree_text v d low n s) _
+      ∙ ap (λ x. done ++ x) (sym (followed d low top link n s e h l a))
+      ∙ whole

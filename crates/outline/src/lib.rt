@@ -1,6 +1,7 @@
 // Trees in slots, written as text.
 #![tactic(auto)]
 
+mod leaf;
 mod print;
 
 pub use print::{Form, show};

@@ -1,370 +1,215 @@
-ghost use Rattle.std.specs.Prelude.{◌≡◌, ◌+◌, ◌-◌, ◌^◌, ◌<◌, ◌≤◌, [], ◌∷◌, ◌++◌, length, IfOk, Some, string_bytes, decimal};
-ghost use Rattle.std.specs.Option.{option_map};
-ghost use Rattle.kinds.specs.At.{at};
-ghost use Rattle.tree.specs.Reads.{seen};
-ghost use Rattle.outline.specs.Shown.{Adds, is_plain, hex_digit, byte_text, bytes_text, number_text, place_text, content_text, mark_text, flag_text, part_text, float_text, said_text, place_in, label_text, spaces, indent_text, node_text, broken_text, enter_text, leave_text, separator as separator_text, between_text, trees_text, below_text, show_text};
+ghost use Rattle.std.specs.Prelude.{◌≡◌, ◌+◌, ◌-◌, ◌^◌, ◌<◌, ◌≤◌, length, IfOk, Some, string_bytes};
+ghost use Rattle.std.specs.Fmt.{WritesOnOk};
+ghost use Rattle.outline.specs.Shown.{spaces, said_text, indent_text, node_text, broken_text, enter_text, leave_text, separator as separator_text, trees_text, tree_text, show_text};
 ghost use Rattle.outline.specs.Whole.{Whole};
 
+use crate::leaf::{Escaped, Leaf, flagged};
 use std::alloc::{AllocError, Global};
-use syntax::Span;
-use tree::{Content, NodeKind, OBJECT, Slot, WILDCARD, part, slot_leaf};
+use std::fmt;
+use std::ops::Range;
+use tree::{NodeKind, OBJECT, Slot, Tree, WILDCARD, part};
 
 // How a tree is written: a node to a line, indented, with its place; or all of it in one line.
-#[derive(Clone, Copy)]
+#[derive(Clone, Copy, Debug, PartialEq, Eq)]
 pub enum Form {
     Outline,
     Line,
 }
 
-// What a tree is read from.
+impl Form {
+    fn indent(self, depth: usize) -> Indent
+        ensures { spaces result.0 ≡ indent_text self depth }
+    {
+        match self {
+            Form::Outline => Indent(depth),
+            Form::Line => Indent(0),
+        }
+    }
+
+    fn punctuation(self) -> Punctuation
+        ensures enter { result.enter.now ≡ enter_text self }
+        ensures separator { result.separator.now ≡ separator_text self }
+        ensures leave { result.leave.now ≡ leave_text self }
+    {
+        match self {
+            Form::Outline => Punctuation {
+                enter: "\n",
+                separator: "\n",
+                leave: "",
+            },
+            Form::Line => Punctuation {
+                enter: "(",
+                separator: ", ",
+                leave: ")",
+            },
+        }
+    }
+}
+
+// What stands before the trees below a node, between two of them, and behind them.
 #[derive(Clone, Copy)]
-struct View<'a> {
+struct Punctuation {
+    enter: &'static str,
+    separator: &'static str,
+    leave: &'static str,
+}
+
+// How deep a line is indented.
+#[derive(Clone, Copy)]
+struct Indent(usize);
+
+impl fmt::Display for Indent {
+    ghost output = { λ i. Some (spaces i.0) };
+
+    fn fmt<W: fmt::Write>(&self, f: &mut fmt::Formatter<W>) -> fmt::Result {
+        for _i in 0..self.0 {
+            write!(f, "  ")?;
+        }
+        Ok(())
+    }
+}
+
+// What a slot says: its content, or a float as the source has it.
+#[derive(Clone, Copy)]
+struct Said<'a> {
+    tree: Tree<'a>,
+    slot: &'a Slot,
+}
+
+impl fmt::Display for Said<'_> {
+    ghost output = { λ s. Some (said_text s.slot.now s.tree.source.now s.tree.text.now) };
+
+    fn fmt<W: fmt::Write>(&self, f: &mut fmt::Formatter<W>) -> fmt::Result {
+        let Said { tree, slot } = *self;
+        match tree.slot_leaf(slot) {
+            Some(content) => write!(f, "{}", Leaf(content)),
+            None if slot.kind == NodeKind::LiteralFloat => match part(tree.source, slot.span) {
+                Some(bytes) => write!(f, " {}", Escaped(bytes)),
+                None => Ok(()),
+            },
+            None => Ok(()),
+        }
+    }
+}
+
+// The tree that a slot holds, in a form.
+#[derive(Clone, Copy)]
+struct Shown<'a> {
     form: Form,
-    slots: &'a [Slot],
-    source: &'a [u8],
-    text: &'a [u8],
-    heap: Global,
+    tree: Tree<'a>,
+    number: usize,
 }
 
-fn is_plain(byte: u8) -> bool
-    ensures { result ≡ is_plain byte }
-{
-    b' ' <= byte && byte <= b'~' && byte != b'"' && byte != b'\\'
-}
+impl fmt::Display for Shown<'_> {
+    ghost output = { λ s. Some (show_text s) };
 
-fn put(out: &mut String, text: &str) -> Result<(), AllocError>
-    ensures { Adds result (string_bytes out.old) text.now (string_bytes out.new) }
-{
-    out.push_str(text)
-}
-
-fn put_ascii(out: &mut String, byte: u8) -> Result<(), AllocError>
-    requires { byte < 128 }
-    ensures { Adds result (string_bytes out.old) (byte ∷ []) (string_bytes out.new) }
-{
-    out.push(char::from(byte))
-}
-
-fn put_hex(out: &mut String, digit: u8) -> Result<(), AllocError>
-    requires { digit < 16 }
-    ensures { Adds result (string_bytes out.old) (hex_digit digit ∷ []) (string_bytes out.new) }
-{
-    if digit < 10 {
-        put_ascii(out, b'0' + digit)
-    } else {
-        put_ascii(out, b'a' + (digit - 10))
-    }
-}
-
-// A byte as it is, or in hexadecimal where it is no plain character.
-fn put_byte(out: &mut String, byte: u8) -> Result<(), AllocError>
-    ensures { Adds result (string_bytes out.old) (byte_text byte) (string_bytes out.new) }
-{
-    if is_plain(byte) {
-        return put_ascii(out, byte);
-    }
-    put(out, "\\x")?;
-    put_hex(out, byte / 16)?;
-    put_hex(out, byte % 16)
-}
-
-fn put_bytes(out: &mut String, bytes: &[u8]) -> Result<(), AllocError>
-    ensures { Adds result (string_bytes out.old) (bytes_text bytes.now) (string_bytes out.new) }
-{
-    for byte in bytes {
-        put_byte(out, *byte)?;
-    }
-    Ok(())
-}
-
-fn put_unsigned(out: &mut String, heap: Global, value: u64) -> Result<(), AllocError>
-    ensures { Adds result (string_bytes out.old) (decimal value) (string_bytes out.new) }
-{
-    let digits = value.to_string(heap)?;
-    put(out, digits.as_str())
-}
-
-fn put_number(out: &mut String, heap: Global, value: i64, unsigned: bool) -> Result<(), AllocError>
-    ensures { Adds result (string_bytes out.old) (number_text value unsigned) (string_bytes out.new) }
-{
-    let digits = if unsigned {
-        value.cast_unsigned().to_string(heap)?
-    } else {
-        value.to_string(heap)?
-    };
-    put(out, " ")?;
-    put(out, digits.as_str())
-}
-
-fn put_place(out: &mut String, heap: Global, place: Span) -> Result<(), AllocError>
-    ensures { Adds result (string_bytes out.old) (place_text place) (string_bytes out.new) }
-{
-    put(out, " ")?;
-    put_unsigned(out, heap, place.start as u64)?;
-    put(out, "..")?;
-    put_unsigned(out, heap, place.end as u64)
-}
-
-fn put_quoted(out: &mut String, before: &str, bytes: &[u8], behind: &str) -> Result<(), AllocError>
-    ensures { Adds result (string_bytes out.old) (before.now ++ (bytes_text bytes.now ++ behind.now)) (string_bytes out.new) }
-{
-    put(out, before)?;
-    put_bytes(out, bytes)?;
-    put(out, behind)
-}
-
-fn put_content(out: &mut String, heap: Global, content: Content) -> Result<(), AllocError>
-    ensures { Adds result (string_bytes out.old) (content_text (seen content.entry)) (string_bytes out.new) }
-{
-    match content {
-        Content::Name(name) => put_quoted(out, " ", name, ""),
-        Content::String { value, .. } => put_quoted(out, " \"", value, "\""),
-        Content::Regexp {
-            body,
-            case_insensitive,
-            dot_matches_new_line,
-        } => {
-            let behind = match (case_insensitive, dot_matches_new_line) {
-                (true, true) => "/is",
-                (true, false) => "/i",
-                (false, true) => "/s",
-                (false, false) => "/",
-            };
-            put_quoted(out, " /", body, behind)
+    fn fmt<W: fmt::Write>(&self, f: &mut fmt::Formatter<W>) -> fmt::Result {
+        match self.tree.slots.get(self.number) {
+            Some(slot) => self.tree(f, 0, 0..self.number, slot),
+            None => self.broken(f, 0, self.number.saturating_add(1)),
         }
-        Content::Number {
-            value,
-            unsigned,
-            ..
-        } => put_number(out, heap, value, unsigned),
     }
 }
 
-fn mark(wildcard: bool, object: bool) -> &'static str
-    ensures { result.now ≡ mark_text wildcard object }
-{
-    match (wildcard, object) {
-        (true, true) => "* method",
-        (true, false) => "*",
-        (false, true) => " method",
-        (false, false) => "",
+impl Shown<'_> {
+    // All of a slot but its links.
+    fn node<W: fmt::Write>(
+        &self,
+        f: &mut fmt::Formatter<W>,
+        depth: usize,
+        slot: &Slot,
+    ) -> fmt::Result
+        ensures { WritesOnOk W.write_str_gives f.old result (node_text self.now depth slot.now) f.new }
+    {
+        let Slot { kind, span, .. } = *slot;
+        let said = Said {
+            tree: self.tree,
+            slot,
+        };
+        let wildcard = flagged(slot.has(WILDCARD), "*");
+        let object = flagged(slot.has(OBJECT), " method");
+        match self.form {
+            Form::Outline => {
+                let indent = Indent(depth);
+                write!(
+                    f,
+                    "{indent}{kind} {}..{}{said}{wildcard}{object}",
+                    span.start, span.end
+                )
+            }
+            Form::Line => write!(f, "{kind}{said}{wildcard}{object}"),
+        }
     }
-}
 
-fn put_flags(out: &mut String, slot: &Slot) -> Result<(), AllocError>
-    ensures { Adds result (string_bytes out.old) (flag_text slot.now) (string_bytes out.new) }
-{
-    put(out, mark(slot.has(WILDCARD), slot.has(OBJECT)))
-}
-
-fn put_part(out: &mut String, bytes: Option<&[u8]>) -> Result<(), AllocError>
-    ensures { Adds result (string_bytes out.old) (part_text (option_map (λ x. x.now) bytes.entry)) (string_bytes out.new) }
-{
-    match bytes {
-        Some(part) => put_quoted(out, " ", part, ""),
-        None => Ok(()),
+    // A link that does not lead where it has to.
+    fn broken<W: fmt::Write>(
+        &self,
+        f: &mut fmt::Formatter<W>,
+        depth: usize,
+        link: usize,
+    ) -> fmt::Result
+        ensures { WritesOnOk W.write_str_gives f.old result (broken_text self.now depth link) f.new }
+    {
+        let indent = self.form.indent(depth);
+        write!(f, "{indent}<broken link {link}>")
     }
-}
 
-// A float is shown as the source has it.
-fn put_float(out: &mut String, view: View, slot: &Slot) -> Result<(), AllocError>
-    ensures { Adds result (string_bytes out.old) (float_text slot.now view.entry.source.now) (string_bytes out.new) }
-{
-    if slot.kind == NodeKind::LiteralFloat {
-        put_part(out, part(view.source, slot.span))
-    } else {
+    // A node and all below it, which has to stand in the slots `below`.
+    #[cycle(trees)]
+    fn tree<W: fmt::Write>(
+        &self,
+        f: &mut fmt::Formatter<W>,
+        depth: usize,
+        below: Range<usize>,
+        slot: &Slot,
+    ) -> fmt::Result
+        requires { (depth + 1 + below.end < 2 ^ 64) × (below.end ≤ length self.now.tree.slots.now) }
+        ensures { WritesOnOk W.write_str_gives f.old result (tree_text self.now depth below.start below.end slot.now) f.new }
+    {
+        self.node(f, depth, slot)?;
+        if slot.first == 0 {
+            return Ok(());
+        }
+        let Punctuation { enter, leave, .. } = self.form.punctuation();
+        f.write_str(enter)?;
+        self.row(f, depth + 1, below, slot.first)?;
+        f.write_str(leave)
+    }
+
+    // The trees that a link leads to, one behind another, as far as they stand in the slots `within`. Trees in lent
+    // memory have links, so they are followed here.
+    #[cycle(trees)]
+    fn row<W: fmt::Write>(
+        &self,
+        f: &mut fmt::Formatter<W>,
+        depth: usize,
+        mut within: Range<usize>,
+        mut link: usize,
+    ) -> fmt::Result
+        requires { (depth + within.end < 2 ^ 64) × (within.end ≤ length self.now.tree.slots.now) }
+        ensures { WritesOnOk W.write_str_gives f.old result (trees_text self.now (within.end - within.start) depth within.start within.end link) f.new }
+    {
+        while let Some(number) = link.checked_sub(1) {
+            if !within.contains(&number) {
+                return self.broken(f, depth, link);
+            }
+            let slot = &self.tree.slots[number];
+            self.tree(f, depth, within.start..number, slot)?;
+            if slot.next != 0 {
+                f.write_str(self.form.punctuation().separator)?;
+            }
+            within.start = link;
+            link = slot.next;
+        }
         Ok(())
     }
-}
-
-fn put_said(out: &mut String, view: View, slot: &Slot) -> Result<(), AllocError>
-    ensures { Adds result (string_bytes out.old) (said_text slot.now view.entry.source.now view.entry.text.now) (string_bytes out.new) }
-{
-    match slot_leaf(slot, view.source, view.text) {
-        Some(content) => put_content(out, view.heap, content),
-        None => put_float(out, view, slot),
-    }
-}
-
-fn put_place_in(out: &mut String, view: View, slot: &Slot) -> Result<(), AllocError>
-    ensures { Adds result (string_bytes out.old) (place_in view.entry.form slot.now) (string_bytes out.new) }
-{
-    match view.form {
-        Form::Outline => put_place(out, view.heap, slot.span),
-        Form::Line => Ok(()),
-    }
-}
-
-fn put_label(out: &mut String, view: View, slot: &Slot) -> Result<(), AllocError>
-    ensures { Adds result (string_bytes out.old) (label_text view.entry slot.now) (string_bytes out.new) }
-{
-    put(out, slot.kind.name())?;
-    put_place_in(out, view, slot)?;
-    put_said(out, view, slot)?;
-    put_flags(out, slot)
-}
-
-fn put_spaces(out: &mut String, depth: usize) -> Result<(), AllocError>
-    ensures { Adds result (string_bytes out.old) (spaces depth) (string_bytes out.new) }
-{
-    for _ in 0..depth {
-        put(out, "  ")?;
-    }
-    Ok(())
-}
-
-fn put_indent(out: &mut String, view: View, depth: usize) -> Result<(), AllocError>
-    ensures { Adds result (string_bytes out.old) (indent_text view.entry.form depth) (string_bytes out.new) }
-{
-    match view.form {
-        Form::Outline => put_spaces(out, depth),
-        Form::Line => Ok(()),
-    }
-}
-
-fn put_node(out: &mut String, view: View, depth: usize, slot: &Slot) -> Result<(), AllocError>
-    ensures { Adds result (string_bytes out.old) (node_text view.entry depth slot.now) (string_bytes out.new) }
-{
-    put_indent(out, view, depth)?;
-    put_label(out, view, slot)
-}
-
-fn put_broken(out: &mut String, view: View, depth: usize, link: usize) -> Result<(), AllocError>
-    ensures { Adds result (string_bytes out.old) (broken_text view.entry depth link) (string_bytes out.new) }
-{
-    put_indent(out, view, depth)?;
-    put(out, "<broken link ")?;
-    put_unsigned(out, view.heap, link as u64)?;
-    put(out, ">")
-}
-
-fn enter(form: Form) -> &'static str
-    ensures { result.now ≡ enter_text form }
-{
-    match form {
-        Form::Outline => "\n",
-        Form::Line => "(",
-    }
-}
-
-fn leave(form: Form) -> &'static str
-    ensures { result.now ≡ leave_text form }
-{
-    match form {
-        Form::Outline => "",
-        Form::Line => ")",
-    }
-}
-
-fn separator(form: Form) -> &'static str
-    ensures { result.now ≡ separator_text form }
-{
-    match form {
-        Form::Outline => "\n",
-        Form::Line => ", ",
-    }
-}
-
-fn put_between(out: &mut String, view: View, next: usize) -> Result<(), AllocError>
-    ensures { Adds result (string_bytes out.old) (between_text view.entry next) (string_bytes out.new) }
-{
-    if next == 0 {
-        Ok(())
-    } else {
-        put(out, separator(view.form))
-    }
-}
-
-fn follow(slots: &[Slot], link: usize) -> Slot
-    requires { (0 < link) × (link ≤ length slots.now) }
-    ensures { at slots.now (link - 1) ≡ Some result }
-{
-    slots[link - 1]
-}
-
-// The trees below a node: `first` is the link to the first of them.
-#[cycle(put_below_put_trees)]
-fn put_below(
-    out: &mut String,
-    view: View,
-    depth: usize,
-    low: usize,
-    top: usize,
-    first: usize,
-) -> Result<(), AllocError>
-    requires { (depth + 1 + top < 2 ^ 64) × (top ≤ length view.slots.now) }
-    ensures { Adds result (string_bytes out.old) (below_text view.entry depth low top first) (string_bytes out.new) }
-{
-    if first == 0 {
-        return Ok(());
-    }
-    put(out, enter(view.form))?;
-    put_trees(out, view, depth + 1, low, top, first)?;
-    put(out, leave(view.form))
-}
-
-// The trees that a link leads to, one behind another. It has to lead above `low` and up to `top`, or it is broken.
-#[cycle(put_below_put_trees)]
-fn put_trees(
-    out: &mut String,
-    view: View,
-    depth: usize,
-    mut low: usize,
-    top: usize,
-    mut link: usize,
-) -> Result<(), AllocError>
-    requires { (depth + top < 2 ^ 64) × (top ≤ length view.slots.now) }
-    ensures { Adds result (string_bytes out.old) (trees_text view.entry (top - low) depth low top link) (string_bytes out.new) }
-{
-    while link != 0 {
-        if link <= low || link > top {
-            return put_broken(out, view, depth, link);
-        }
-        let slot = follow(view.slots, link);
-        put_node(out, view, depth, &slot)?;
-        put_below(out, view, depth, low, link - 1, slot.first)?;
-        put_between(out, view, slot.next)?;
-        low = link;
-        link = slot.next;
-    }
-    Ok(())
-}
-
-fn put_tree(out: &mut String, view: View, number: usize) -> Result<(), AllocError>
-    ensures { Adds result (string_bytes out.old) (show_text view.entry number) (string_bytes out.new) }
-{
-    if number >= view.slots.len() {
-        return put_broken(out, view, 0, number.saturating_add(1));
-    }
-    let slot = follow(view.slots, number + 1);
-    put_node(out, view, 0, &slot)?;
-    put_below(out, view, 0, 0, number, slot.first)
 }
 
 // The tree that a slot holds, as an outline or in one line. A link that leaves the slots, or does not lead to a slot
 // before its parent's and behind its earlier siblings', is shown as broken and not followed.
-pub fn show<'a>(
-    heap: Global,
-    form: Form,
-    slots: &'a [Slot],
-    number: usize,
-    source: &'a [u8],
-    text: &'a [u8],
-) -> Result<String, AllocError>
-    ensures made { IfOk result (λ s. string_bytes s ≡ show_text (record { form = form; slots = slots.entry; source = source.entry; text = text.entry; heap = heap }) number) }
-    ensures whole { IfOk result (λ s. Whole (record { form = form; slots = slots.entry; source = source.entry; text = text.entry; heap = heap }) number (string_bytes s)) }
+pub fn show(heap: Global, form: Form, tree: Tree, number: usize) -> Result<String, AllocError>
+    ensures made { IfOk result (λ s. string_bytes s ≡ show_text (record { form = form; tree = tree.entry; number = number })) }
+    ensures whole { IfOk result (λ s. Whole (record { form = form; tree = tree.entry; number = number }) (string_bytes s)) }
 {
-    let mut out = String::new(heap);
-    put_tree(
-        &mut out,
-        View {
-            form,
-            slots,
-            source,
-            text,
-            heap,
-        },
-        number,
-    )?;
-    Ok(out)
+    Shown { form, tree, number }.to_string(heap)
 }

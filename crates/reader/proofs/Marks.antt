@@ -1,43 +1,19 @@
 -- Marks of events.
-use Rattle.std.proofs.Common.{◌≡◌, Bool, true, false, sym, ap, subst, eqb-true}
+use Rattle.std.proofs.Common.{◌≡◌, Bool, true, false, sym, ap, ◌∙◌, subst}
 use Rattle.std.specs.Prelude.{MatchBool}
-use borrow.Author.Tests.{eqb-false}
-use Rattle.kinds.specs.Kinds.{number_of, same}
+use denote.Enum.Bare.{same_true, same_false}
 use Rattle.kinds.specs.declared.kind.SyntaxKind.{SyntaxKind}
-use Rattle.kinds.proofs.Inverse.{number_same}
+use Rattle.kinds.specs.contracts.kind.SyntaxKind.{the_type}
+use Rattle.kinds.specs.contracts.kind.SyntaxKindPartialEq.TheImpl.{ghosts}
 use Rattle.syntax.specs.declared.event.Event.{Event}
-use Rattle.syntax.specs.declared.event.Event.TheVariants.{Begin, End, Token}
 use Rattle.syntax.specs.declared.span.Span.{Span}
 use Rattle.reader.specs.declared.mark.Mark.{Mark}
-use Rattle.reader.specs.declared.mark.Mark.TheVariants as mark
-use Rattle.reader.specs.Symbols.{Fits}
+use Rattle.reader.specs.Symbols.{event, Fits}
 
-pub same_true : (k j : SyntaxKind) → same k j ≡ true → k ≡ j
-same_true k j e = number_same k j (eqb-true _ _ e)
-
-begin_kind : {a b : SyntaxKind} {s r : Span} → Begin a s ≡ Begin b r → a ≡ b
-begin_kind e = cc
-
-end_kind : {a b : SyntaxKind} {s r : Span} → End a s ≡ End b r → a ≡ b
-end_kind e = cc
-
-pub token_kind : {a b : SyntaxKind} {s r : Span} → Token a s ≡ Token b r → a ≡ b
-token_kind e = cc
-
-abbrev Told : Bool → Mark → Event → Type 0
-Told b m e = MatchBool b (Fits m e) (Fits m e → ⊥)
-
-pub fit_begin : (b : Bool) (k j : SyntaxKind) (s : Span) → b ≡ same k j → Told b (mark.Begin j) (Begin k s)
-fit_begin true k j s e = (s, ap (λ t. Begin t s) (same_true k j (sym e)))
-fit_begin false k j s e = λ f. eqb-false _ _ (sym e) (ap (λ t. number_of t) (begin_kind f.1))
-
-pub fit_end : (b : Bool) (k j : SyntaxKind) (s : Span) → b ≡ same k j → Told b (mark.End j) (End k s)
-fit_end true k j s e = (s, ap (λ t. End t s) (same_true k j (sym e)))
-fit_end false k j s e = λ f. eqb-false _ _ (sym e) (ap (λ t. number_of t) (end_kind f.1))
-
-pub fit_token : (b : Bool) (k j : SyntaxKind) (s : Span) → b ≡ same k j → Told b (mark.Token j) (Token k s)
-fit_token true k j s e = (s, ap (λ t. Token t s) (same_true k j (sym e)))
-fit_token false k j s e = λ f. eqb-false _ _ (sym e) (ap (λ t. number_of t) (token_kind f.1))
-
-pub fit_moved : (b : Bool) {m m' : Mark} {e e' : Event} → m ≡ m' → e ≡ e' → Told b m' e' → Told b m e
-fit_moved b {m} {m'} {e} {e'} p q f = subst (λ n. Told b n e) (sym p) (subst (λ d. Told b m' d) (sym q) f)
+-- an event of a form, and a mark of the same form, with their kinds compared
+pub fit : (M : SyntaxKind → Mark) → ((k j : SyntaxKind) (s r : Span) → event (M k) s ≡ event (M j) r → k ≡ j) → (b : Bool) (m : Mark) (e : Event) (j k : SyntaxKind) (s : Span) → m ≡ M j → e ≡ event (M k) s → b ≡ ghosts.eq k j → MatchBool b (Fits m e) (Fits m e → ⊥)
+fit M one true m e j k s p q h =
+    let i = same_true the_type tt k j (sym h) in
+    subst (λ n. Fits n e) (sym p) (s, q ∙ ap (λ t. event (M t) s) i)
+fit M one false m e j k s p q h =
+    λ f. same_false the_type k j (sym h) (one k j s f.0 (sym q ∙ f.1 ∙ ap (λ n. event n f.0) p))

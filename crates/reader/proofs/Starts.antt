@@ -1,5 +1,5 @@
 -- What the words of a symbol begin with.
-use Rattle.std.proofs.Common.{◌≡◌, ℕ, Bool, true, false, cond, not, T, ◌⊎◌, List, [], ◌∷◌, ◌++◌, sym, refl, ap, ◌∙◌, subst, inl, inr, arith, T_not, eq-eqb}
+use Rattle.std.proofs.Common.{◌≡◌, Bool, true, false, cond, not, T, ◌⊎◌, List, [], ◌∷◌, ◌++◌, sym, refl, ap, ◌∙◌, subst, inl, inr, T_not, eq-eqb}
 use Rattle.kinds.specs.Kinds.{number_of, same}
 use Rattle.kinds.specs.declared.kind.SyntaxKind.{SyntaxKind}
 use Rattle.syntax.specs.declared.event.Event.{Event}
@@ -29,13 +29,13 @@ unequal {a} {b} d e = T_not _ d (subst T (sym (eq-eqb (number_of a) (number_of b
 
 pub apart : (m n : Mark) (s r : Span) → T (differ m n) → event m s ≡ event n r → ⊥
 apart (mark.Begin a) (mark.Begin b) s r d e = let k : a ≡ b = cc in unequal d k
-apart (mark.Begin a) (mark.End b) s r d e = let z : ◌≡◌ {A = ℕ} 0 1 = cc in omega arith
-apart (mark.Begin a) (mark.Token b) s r d e = let z : ◌≡◌ {A = ℕ} 0 1 = cc in omega arith
-apart (mark.End a) (mark.Begin b) s r d e = let z : ◌≡◌ {A = ℕ} 0 1 = cc in omega arith
+apart (mark.Begin a) (mark.End b) s r d e = cc
+apart (mark.Begin a) (mark.Token b) s r d e = cc
+apart (mark.End a) (mark.Begin b) s r d e = cc
 apart (mark.End a) (mark.End b) s r d e = let k : a ≡ b = cc in unequal d k
-apart (mark.End a) (mark.Token b) s r d e = let z : ◌≡◌ {A = ℕ} 0 1 = cc in omega arith
-apart (mark.Token a) (mark.Begin b) s r d e = let z : ◌≡◌ {A = ℕ} 0 1 = cc in omega arith
-apart (mark.Token a) (mark.End b) s r d e = let z : ◌≡◌ {A = ℕ} 0 1 = cc in omega arith
+apart (mark.End a) (mark.Token b) s r d e = cc
+apart (mark.Token a) (mark.Begin b) s r d e = cc
+apart (mark.Token a) (mark.End b) s r d e = cc
 apart (mark.Token a) (mark.Token b) s r d e = let k : a ≡ b = cc in unequal d k
 
 -- an event of one of some marks

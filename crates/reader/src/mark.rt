@@ -5,7 +5,7 @@ use kinds::SyntaxKind;
 use syntax::Event;
 
 // What an event has to be.
-#[derive(Clone, Copy)]
+#[derive(Clone, Copy, Debug, PartialEq, Eq)]
 pub enum Mark {
     Begin(SyntaxKind),
     End(SyntaxKind),
@@ -17,19 +17,12 @@ impl Mark {
     pub fn fits(self, event: Event) -> bool
         ensures { MatchBool result (Fits self event) (Fits self event → ⊥) }
     {
-        match self {
-            Mark::Begin(kind) => match event {
-                Event::Begin { kind: other, .. } => other == kind,
-                _ => false,
-            },
-            Mark::End(kind) => match event {
-                Event::End { kind: other, .. } => other == kind,
-                _ => false,
-            },
-            Mark::Token(kind) => match event {
-                Event::Token { kind: other, .. } => other == kind,
-                _ => false,
-            },
+        // One arm for each form: joined by or-patterns, the proof did not close.
+        match (self, event) {
+            (Mark::Begin(kind), Event::Begin { kind: other, .. }) => other == kind,
+            (Mark::End(kind), Event::End { kind: other, .. }) => other == kind,
+            (Mark::Token(kind), Event::Token { kind: other, .. }) => other == kind,
+            _ => false,
         }
     }
 }

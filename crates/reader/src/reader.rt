@@ -1,11 +1,8 @@
-ghost use Rattle.std.specs.Prelude.{◌≡◌, ◌+◌, ◌<◌, true, false, [], ◌∷◌, length, take as first_of};
-ghost use Rattle.operators.specs.Levels.{among};
-ghost use Rattle.grammar.specs.Extents.{entries_in};
-ghost use Rattle.grammar.specs.Tests.{is_damaged, last_end, names, opens as opens_from};
-ghost use Rattle.reader.specs.States.{misplaced, is_past_depth};
-ghost use Rattle.reader.specs.Symbols.Sym.{one};
-ghost use Rattle.reader.specs.Contract.{state_of, Kept, Peeked, Saw, Takes, There, Anywhere, Parses, Compared, Finished};
-ghost use Rattle.reader.specs.declared.mark.Mark.TheVariants.{Begin as BeginOf, End as EndOf, Token as TokenOf};
+ghost use Rattle.std.specs.Prelude.{◌≡◌, take, drop};
+ghost use Rattle.std.specs.List.{prefix_len};
+ghost use Rattle.grammar.specs.Extents.{visible};
+ghost use Rattle.grammar.specs.Tests.{is_damaged, last_end, opens as opens_behind};
+ghost use Rattle.reader.specs.States.{is_error};
 
 use crate::mark::Mark;
 use kinds::SyntaxKind;
@@ -17,7 +14,7 @@ use syntax::{Event, Span};
 // How many nodes may be open.
 const LIMIT: usize = 3000;
 
-// A row of events over a source, and how far it is read.
+// A row of events over a source, and how far it is read: an index, since contracts speak of the events before it too.
 #[derive(Drop)]
 pub struct Reader<'a> {
     pub source: &'a [u8],
@@ -26,20 +23,34 @@ pub struct Reader<'a> {
     // Where the last token ended, and how many nodes are open.
     pub last: u32,
     pub opens: usize,
+    ghost last_is: { last ≡ last_end 0 (visible (take at row.now)) },
+    ghost opens_is: { opens ≡ opens_behind 0 (visible (take at row.now)) },
+}
+
+fn is_error(event: &Event) -> bool
+    ensures { result ≡ is_error event.now }
+{
+    matches!(event, Event::Error { .. })
 }
 
 fn is_damaged(event: Event) -> bool
     ensures { result ≡ is_damaged event }
 {
-    match event {
-        Event::Begin { kind, .. } => kind == SyntaxKind::ERROR,
-        _ => false,
-    }
+    matches!(event, Event::Begin { kind, .. } if kind == SyntaxKind::ERROR)
 }
 
 impl<'a> Reader<'a> {
-    pub fn new(source: &'a [u8], row: &'a [Event]) -> Reader<'a>
-        ensures { result ≡ record { source = source.entry; row = row.entry; at = 0; last = 0; opens = 0 } }
+    ghost use Rattle.std.specs.Prelude.{◌+◌, true, false, length, refl};
+    ghost use Rattle.operators.specs.Levels.{among};
+    ghost use Rattle.grammar.specs.Extents.{entries_in};
+    ghost use Rattle.grammar.specs.Tests.{names};
+    ghost use Rattle.reader.specs.States.{is_past_depth, misplaced, judged, step};
+    ghost use Rattle.reader.specs.Symbols.Sym.{one};
+    ghost use Rattle.reader.specs.Contract.{state_of, Kept, Shown, Peeked, Saw, Takes, There, Anywhere, Parses, Compared, Finished};
+    ghost use Rattle.reader.specs.declared.mark.Mark.TheVariants.{Begin as BeginOf, End as EndOf, Token as TokenOf};
+
+    pub fn new(source: &'a [u8], row: &'a [Event]) -> Self
+        ensures { result ≡ record { source = source.entry; row = row.entry; at = 0; last = 0; opens = 0; last_is = refl; opens_is = refl } }
     {
         Reader {
             source,
@@ -53,31 +64,36 @@ impl<'a> Reader<'a> {
     fn is_misplaced(&self, event: Event) -> bool
         ensures { result ≡ misplaced (state_of self.now) event }
     {
-        match event {
-            Event::Token { span, .. } => {
-                span.end < span.start || self.source.len() < span.end() || span.start < self.last
-            }
-            _ => false,
-        }
+        matches!(event, Event::Token { span, .. }
+            if span.end < span.start || self.source.len() < span.end() || span.start < self.last)
     }
 
     fn is_too_deep(&self, event: Event) -> bool
         ensures { result ≡ is_past_depth (state_of self.now) event }
     {
-        match event {
-            Event::Begin { .. } => LIMIT <= self.opens,
-            _ => false,
+        matches!(event, Event::Begin { .. }) && LIMIT <= self.opens
+    }
+
+    // What is tested of an event wherever it stands.
+    fn judge(&self, event: Event) -> Result<(), Refusal>
+        ensures { result ≡ judged (state_of self.now) event }
+    {
+        if is_damaged(event) {
+            Err(Refusal::Damaged(event.span()))
+        } else if self.is_misplaced(event) {
+            Err(Refusal::BadSpan(event.span()))
+        } else {
+            Ok(())
         }
     }
 
     // Counts the event, and goes past it.
     fn count(&mut self, event: Event)
         requires shallow { is_past_depth (state_of self.old) event ≡ false }
-        requires at_in_bounds { self.old.at < length self.old.row.now }
+        requires shown { Shown self.old event }
         ensures kept { Kept self.old self.new }
         ensures place { self.new.at ≡ self.old.at + 1 }
-        ensures last { self.new.last ≡ last_end self.old.last (event ∷ []) }
-        ensures opens { self.new.opens ≡ opens_from self.old.opens (event ∷ []) }
+        ensures state { state_of self.new ≡ step (state_of self.old) event }
     {
         match event {
             Event::Begin { .. } => self.opens += 1,
@@ -88,28 +104,30 @@ impl<'a> Reader<'a> {
         self.at += 1;
     }
 
+    // How many Error events come next.
+    fn errors_ahead(&self) -> usize
+        ensures { result ≡ prefix_len is_error (drop self.now.at self.now.row.now) }
+    {
+        self.row
+            .iter()
+            .skip(self.at)
+            .take_while(|event| is_error(event))
+            .count()
+    }
+
     // Passes over Error events, and shows the next event.
     fn peek(&mut self) -> Option<Event>
         ensures { Peeked self.old self.new result }
     {
-        while self.at < self.row.len() {
-            let event = self.row[self.at];
-            match event {
-                Event::Error { .. } => self.at += 1,
-                _ => return Some(event),
-            }
-        }
-        None
+        self.at += self.errors_ahead();
+        self.row.get(self.at).copied()
     }
 
     // Whether the next event is as asked.
     pub fn sees(&mut self, mark: Mark) -> bool
         ensures { Saw mark self.old self.new result }
     {
-        match self.peek() {
-            Some(event) => mark.fits(event),
-            None => false,
-        }
+        self.peek().is_some_and(|event| mark.fits(event))
     }
 
     // Takes the next event, which has to be as asked and to pass the tests; answers its place.
@@ -119,13 +137,8 @@ impl<'a> Reader<'a> {
         let Some(event) = self.peek() else {
             return Err(Refusal::OutOfPlace(Span { start: 0, end: 0 }));
         };
+        self.judge(event)?;
         let span = event.span();
-        if is_damaged(event) {
-            return Err(Refusal::Damaged(span));
-        }
-        if self.is_misplaced(event) {
-            return Err(Refusal::BadSpan(span));
-        }
         if !mark.fits(event) {
             return Err(Refusal::OutOfPlace(span));
         }
@@ -161,7 +174,7 @@ impl<'a> Reader<'a> {
         requires { among kind names ≡ true }
         ensures { Parses true (one (TokenOf kind)) (λ s y. y ≡ s) self.old self.new result }
     {
-        let span = self.take(Mark::Token(kind))?;
+        let span = self.expect(kind)?;
         get_source_str(self.source, span)?;
         Ok(span)
     }
@@ -170,16 +183,11 @@ impl<'a> Reader<'a> {
     pub fn operator(&mut self, least: u8) -> Option<(SyntaxKind, u8)>
         ensures { Compared least self.old self.new result }
     {
-        let Some(event) = self.peek() else {
+        let Event::Token { kind, .. } = self.peek()? else {
             return None;
         };
-        match event {
-            Event::Token { kind, .. } => match level(kind) {
-                Some(strength) if least <= strength => Some((kind, strength)),
-                _ => None,
-            },
-            _ => None,
-        }
+        let strength = level(kind)?;
+        (least <= strength).then_some((kind, strength))
     }
 
     // Nothing may be left.
@@ -189,41 +197,18 @@ impl<'a> Reader<'a> {
         let Some(event) = self.peek() else {
             return Ok(());
         };
-        let span = event.span();
-        if is_damaged(event) {
-            Err(Refusal::Damaged(span))
-        } else if self.is_misplaced(event) {
-            Err(Refusal::BadSpan(span))
-        } else {
-            Err(Refusal::OutOfPlace(span))
-        }
+        self.judge(event)?;
+        Err(Refusal::OutOfPlace(event.span()))
     }
 
     // How many Error events were passed over.
     pub fn errors(&self) -> usize
-        ensures { result ≡ length (entries_in (first_of self.now.at self.now.row.now)) }
+        ensures { result ≡ length (entries_in (take self.now.at self.now.row.now)) }
     {
-        let end = self.at.min(self.row.len());
-        count_errors(&self.row[..end])
-    }
-}
-
-fn count_errors(row: &[Event]) -> usize
-    ensures { result ≡ length (entries_in row.now) }
-{
-    let mut count = 0;
-    for event in row {
-        count += is_error(*event);
-    }
-    count
-}
-
-// One for an Error event, else none.
-fn is_error(event: Event) -> usize
-    ensures { result ≡ length (entries_in (event ∷ [])) }
-{
-    match event {
-        Event::Error { .. } => 1,
-        _ => 0,
+        self.row
+            .iter()
+            .take(self.at)
+            .filter(|event| is_error(event))
+            .count()
     }
 }

@@ -1,5 +1,3 @@
-pub mod Rows
-pub mod Tags
 pub mod Fronts
 pub mod OneWay
 pub mod RoundTrip

@@ -1,27 +1,24 @@
-ghost use Rattle.std.specs.Prelude.{◌≡◌};
+ghost use Rattle.std.specs.Prelude.{◌≡◌, Some};
 ghost use Rattle.source.specs.Faults.{number_of, word_of};
 
-use syntax::Event;
+use std::error::Error;
+use std::fmt;
 
 // Why packed bytes cannot be read on.
-#[derive(Clone, Copy)]
+#[derive(Clone, Copy, Debug, PartialEq, Eq, Hash)]
 pub enum Fault {
-    Cut,
+    Cut = 1,
     UnknownTag,
     WrongLength,
     UnknownKind,
 }
 
 impl Fault {
+    // The number by which the format's description calls it.
     pub fn number(self) -> u8
         ensures { result ≡ number_of self }
     {
-        match self {
-            Fault::Cut => 1,
-            Fault::UnknownTag => 2,
-            Fault::WrongLength => 3,
-            Fault::UnknownKind => 4,
-        }
+        self as u8
     }
 
     pub fn word(self) -> &'static str
@@ -36,16 +33,13 @@ impl Fault {
     }
 }
 
-// What comes after the last event of a source.
-#[derive(Clone, Copy)]
-pub enum Close {
-    End,
-    Fault(Fault),
+// Writes the word.
+impl fmt::Display for Fault {
+    ghost output = { λ f. Some (word_of f) };
+
+    fn fmt<W: fmt::Write>(&self, f: &mut fmt::Formatter<W>) -> fmt::Result {
+        f.write_str(self.word())
+    }
 }
 
-// What a source answers: its next event, or how it closed.
-#[derive(Clone, Copy)]
-pub enum Next {
-    Event(Event),
-    Closed(Close),
-}
+impl Error for Fault {}

@@ -7,7 +7,7 @@ mod pack;
 mod packed;
 mod row;
 
-pub use close::{Close, Fault, Next};
+pub use close::Fault;
 pub use event_source::EventSource;
 pub use pack::{append, append_end};
 pub use packed::Packed;

@@ -1,10 +1,7 @@
-ghost use Rattle.std.specs.Prelude.{◌≡◌, ◌+◌, ◌^◌, ◌<◌, ◌≤◌, length};
-ghost use Rattle.syntax.specs.Spans.{span_of};
-ghost use Rattle.source.specs.Meaning.{next_of, rest_of};
-ghost use Rattle.source.specs.Records.{event_of};
-ghost use Rattle.source.specs.Reading.{two_at, four_at, content_of, front_of, events_in, close_in, ReadOneWay};
+ghost use Rattle.std.specs.Prelude.{◌≡◌, length, slice_index};
+ghost use Rattle.source.specs.Reading.{given, content_of, front_of, events_in, close_in, ReadOneWay};
 
-use crate::close::{Close, Fault, Next};
+use crate::close::Fault;
 use crate::event_source::EventSource;
 use syntax::{Event, Span, SyntaxKind};
 
@@ -30,104 +27,54 @@ impl<'a> Packed<'a> {
     }
 }
 
-fn two(bytes: &[u8], at: usize) -> u16
-    requires { at + 2 ≤ length bytes.now }
-    ensures { result ≡ two_at bytes.now at }
+// The event of a whole record with a tag from 1 to 4; the tags are the format's numbers, and end here.
+fn event(whole: &[u8; 13]) -> Result<Event, Fault>
+    ensures { given result ≡ content_of (slice_index whole.now 0) whole.now }
 {
-    bytes[at] as u16 * 256 + bytes[at + 1] as u16
-}
-
-fn four(bytes: &[u8], at: usize) -> u32
-    requires { at + 4 ≤ length bytes.now }
-    ensures { result ≡ four_at bytes.now at }
-{
-    let high = bytes[at] as u32 * 256 + bytes[at + 1] as u32;
-    let low = bytes[at + 2] as u32 * 256 + bytes[at + 3] as u32;
-    high * 65536 + low
-}
-
-// The span of a whole record.
-fn span(bytes: &[u8]) -> Span
-    requires { 13 ≤ length bytes.now }
-    ensures { result ≡ span_of (four_at bytes.now 5) (four_at bytes.now 9) }
-{
-    Span {
-        start: four(bytes, 5),
-        end: four(bytes, 9),
-    }
-}
-
-// The event of a whole record with a tag; none where its number is no kind's.
-fn event(tag: u8, bytes: &[u8]) -> Option<Event>
-    requires { 13 ≤ length bytes.now }
-    ensures { result ≡ event_of tag (two_at bytes.now 3) (span_of (four_at bytes.now 5) (four_at bytes.now 9)) }
-{
-    let number = two(bytes, 3);
+    let [tag, _, _, m, n, s, t, u, v, w, x, y, z] = *whole;
+    let number = u16::from_be_bytes([m, n]);
+    let span = Span {
+        start: u32::from_be_bytes([s, t, u, v]),
+        end: u32::from_be_bytes([w, x, y, z]),
+    };
     if tag == 4 {
-        return Some(Event::Error {
+        return Ok(Event::Error {
             message: number,
-            span: span(bytes),
+            span,
         });
     }
-    let kind = SyntaxKind::from_number(number)?;
-    let span = span(bytes);
+    let kind = SyntaxKind::from_number(number).ok_or(Fault::UnknownKind)?;
     match tag {
-        1 => Some(Event::Begin { kind, span }),
-        2 => Some(Event::End { kind, span }),
-        3 => Some(Event::Token { kind, span }),
-        _ => None,
-    }
-}
-
-// What a whole record gives.
-fn content(tag: u8, bytes: &[u8]) -> Next
-    requires { 13 ≤ length bytes.now }
-    ensures { result ≡ content_of tag bytes.now }
-{
-    match event(tag, bytes) {
-        Some(event) => Next::Event(event),
-        None => Next::Closed(Close::Fault(Fault::UnknownKind)),
+        1 => Ok(Event::Begin { kind, span }),
+        2 => Ok(Event::End { kind, span }),
+        3 => Ok(Event::Token { kind, span }),
+        _ => Err(Fault::UnknownKind),
     }
 }
 
 // What stands first in the bytes.
-fn front(bytes: &[u8]) -> Next
+fn front(bytes: &[u8]) -> Result<Option<Event>, Fault>
     ensures { result ≡ front_of bytes.now }
 {
-    if bytes.len() < 3 {
-        return Next::Closed(Close::Fault(Fault::Cut));
+    let [tag, high, low, ..] = bytes else {
+        return Err(Fault::Cut);
+    };
+    if *tag > 4 {
+        return Err(Fault::UnknownTag);
     }
-    let tag = bytes[0];
-    if tag > 4 {
-        return Next::Closed(Close::Fault(Fault::UnknownTag));
-    }
-    let size = two(bytes, 1);
-    if tag == 0 {
-        if size == 0 {
-            Next::Closed(Close::End)
+    let size = u16::from_be_bytes([*high, *low]);
+    if *tag == 0 {
+        return if size == 0 {
+            Ok(None)
         } else {
-            Next::Closed(Close::Fault(Fault::WrongLength))
-        }
-    } else if size != 10 {
-        Next::Closed(Close::Fault(Fault::WrongLength))
-    } else if bytes.len() < 13 {
-        Next::Closed(Close::Fault(Fault::Cut))
-    } else {
-        content(tag, bytes)
+            Err(Fault::WrongLength)
+        };
     }
-}
-
-// What the bytes give first, and those behind it: all of them where that is the close.
-fn split(bytes: &[u8]) -> (Next, &[u8])
-    ensures value { result.0 ≡ next_of (events_in bytes.now 0) (close_in bytes.now 0) }
-    ensures rest { events_in result.1.now 0 ≡ rest_of (events_in bytes.now 0) }
-    ensures same { close_in result.1.now 0 ≡ close_in bytes.now 0 }
-    ensures bound { length (events_in bytes.now 0) < 2 ^ 64 }
-{
-    match front(bytes) {
-        Next::Event(event) => (Next::Event(event), &bytes[13..]),
-        Next::Closed(close) => (Next::Closed(close), bytes),
+    if size != 10 {
+        return Err(Fault::WrongLength);
     }
+    let whole = bytes.first_chunk().ok_or(Fault::Cut)?;
+    Ok(Some(event(whole)?))
 }
 
 impl<'a> EventSource for Packed<'a> {
@@ -135,14 +82,15 @@ impl<'a> EventSource for Packed<'a> {
 
     ghost close = { λ s. close_in s.bytes.now 0 };
 
-    fn look(&self) -> Next {
-        let (next, _) = split(self.bytes);
-        next
+    fn look(&self) -> Result<Option<Event>, Fault> {
+        front(self.bytes)
     }
 
-    fn take(&mut self) -> Next {
-        let (next, rest) = split(self.bytes);
-        self.bytes = rest;
+    fn take(&mut self) -> Result<Option<Event>, Fault> {
+        let next = front(self.bytes);
+        if let Ok(Some(_)) = next {
+            self.bytes = &self.bytes[13..];
+        }
         next
     }
 }

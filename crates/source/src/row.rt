@@ -1,8 +1,6 @@
-ghost use Rattle.std.specs.Prelude.{◌≡◌};
-ghost use Rattle.source.specs.Meaning.{next_of, rest_of};
-ghost use Rattle.source.specs.declared.close.Close.{Close};
+ghost use Rattle.std.specs.Prelude.{◌≡◌, None};
 
-use crate::close::{Close, Next};
+use crate::close::Fault;
 use crate::event_source::EventSource;
 use syntax::Event;
 
@@ -20,30 +18,20 @@ impl<'a> Row<'a> {
     }
 }
 
-// What the events give first, and those behind it.
-fn split(events: &[Event]) -> (Next, &[Event])
-    ensures value { result.0 ≡ next_of events.now Close.End }
-    ensures rest { result.1.now ≡ rest_of events.now }
-{
-    match events {
-        [first, rest @ ..] => (Next::Event(*first), rest),
-        [] => (Next::Closed(Close::End), events),
-    }
-}
-
 impl<'a> EventSource for Row<'a> {
     ghost events = { λ s. s.events.now };
 
-    ghost close = { λ _. Close.End };
+    ghost close = { λ _. None };
 
-    fn look(&self) -> Next {
-        let (next, _) = split(self.events);
-        next
+    fn look(&self) -> Result<Option<Event>, Fault> {
+        Ok(self.events.first().copied())
     }
 
-    fn take(&mut self) -> Next {
-        let (next, rest) = split(self.events);
+    fn take(&mut self) -> Result<Option<Event>, Fault> {
+        let [first, rest @ ..] = self.events else {
+            return Ok(None);
+        };
         self.events = rest;
-        next
+        Ok(Some(*first))
     }
 }

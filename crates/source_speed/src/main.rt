@@ -1,10 +1,10 @@
 // How long it takes to read events from packed bytes and from a row.
 #![tactic(auto)]
 
-use source::{EventSource, Next, Packed, Row};
+use source::{EventSource, Packed, Row};
 use std::alloc::{AllocError, Global};
 use std::time::Instant;
-use std::{env, fs};
+use std::{env, fs, io};
 use syntax::Event;
 
 fn main(rt: HostRuntime) -> anyhow::Result<()> {
@@ -20,18 +20,8 @@ fn run(rt: &HostRuntime) -> anyhow::Result<()> {
     let rounds = rounds.as_str().parse::<u32>()?;
     let bytes = fs::read(rt, path.as_str())?;
     let events = unpacked(rt.alloc(), bytes.as_slice())?;
-    let start = Instant::now(rt)?;
-    let mut sum = 0;
-    for _ in 0..rounds {
-        sum = drain(Packed::new(bytes.as_slice()), sum);
-    }
-    let packed = start.elapsed(rt)?.as_nanos();
-    let start = Instant::now(rt)?;
-    let mut row_sum = 0;
-    for _ in 0..rounds {
-        row_sum = drain(Row::new(events.as_slice()), row_sum);
-    }
-    let row = start.elapsed(rt)?.as_nanos();
+    let (packed, sum) = timed(rt, rounds, || Packed::new(bytes.as_slice()))?;
+    let (row, row_sum) = timed(rt, rounds, || Row::new(events.as_slice()))?;
     println!(rt; "proved packed {packed} row {row} sums {sum} {row_sum}")?;
     Ok(())
 }
@@ -39,22 +29,32 @@ fn run(rt: &HostRuntime) -> anyhow::Result<()> {
 fn unpacked(heap: Global, bytes: &[u8]) -> Result<Vec<Event>, AllocError> {
     let mut events = Vec::new(heap);
     let mut packed = Packed::new(bytes);
-    for _ in 0..bytes.len() {
-        match packed.take() {
-            Next::Event(event) => events.push(event)?,
-            Next::Closed(_) => break,
-        }
+    while let Ok(Some(event)) = packed.take() {
+        events.push(event)?;
     }
     Ok(events)
 }
 
+// How many nanoseconds it takes to read a source so many times, and what was read.
+fn timed<S: EventSource + Drop, F: Fn() -> S + Drop>(
+    rt: &HostRuntime,
+    rounds: u32,
+    source: F,
+) -> io::Result<(u128, u64)>
+    requires { F.IsAlwaysCallable source }
+{
+    let start = Instant::now(rt)?;
+    let mut sum = 0;
+    for _ in 0..rounds {
+        sum = drain(source(), sum);
+    }
+    Ok((start.elapsed(rt)?.as_nanos(), sum))
+}
+
 // A number in which every event's span has a part, and whether it is trivia.
 fn drain<S: EventSource + Drop>(mut source: S, mut sum: u64) -> u64 {
-    for _ in 0..u64::MAX {
-        match source.take() {
-            Next::Event(event) => sum = mixed(sum, event),
-            Next::Closed(_) => break,
-        }
+    while let Ok(Some(event)) = source.take() {
+        sum = mixed(sum, event);
     }
     sum
 }

@@ -1,11 +1,6 @@
+use kinds::UnknownKind;
+use std::test::Fail;
 use syntax::{Span, SyntaxKind};
-
-fn same(span: Option<Span>, start: u32, end: u32) -> bool {
-    match span {
-        Some(span) => span.start == start && span.end == end,
-        None => false,
-    }
-}
 
 fn span(start: u32, end: u32) -> Span {
     Span { start, end }
@@ -20,27 +15,49 @@ fn documented(rt: HostRuntime) {
     assert!(rt; span(0, 3).contains(&span(0, 2)) && span(0, 3).contains(&span(1, 3)));
     assert!(rt; span(0, 3).contains(&span(0, 3)) && !span(0, 3).contains(&span(0, 4)));
     assert!(rt; !span(0, 3).contains(&span(3, 4)));
-    assert!(rt; same(span(0, 1).offset(1), 1, 2) && same(span(1, 2).offset(-1), 0, 1));
-    assert!(rt; span(0, 1).offset(-1).is_none());
+    assert_eq!(rt; span(0, 1).offset(1), Some(span(1, 2)));
+    assert_eq!(rt; span(1, 2).offset(-1), Some(span(0, 1)));
+    assert_eq!(rt; span(0, 1).offset(-1), None);
 }
 
 #[test]
 fn limits(rt: HostRuntime) {
-    assert!(rt; same(span(0, 1).offset(4294967294), 4294967294, 4294967295));
-    assert!(rt; span(0, 1).offset(4294967295).is_none());
-    assert!(rt;
-        span(0, 1).offset(4294967296).is_none() && span(0, 1).offset(-4294967296).is_none()
-    );
-    assert!(rt; span(0, 1).offset(isize::MAX).is_none() && span(0, 1).offset(isize::MIN).is_none());
-    assert!(rt; same(span(5, 9).subspan(4, 0), 9, 5) && span(5, 9).subspan(5, 0).is_none());
-    assert!(rt; span(5, 9).subspan(0, 5).is_none() && span(9, 5).subspan(0, 0).is_none());
+    let last = Some(span(4294967294, 4294967295));
+    assert_eq!(rt; span(0, 1).offset(4294967294), last);
+    for offset in [4294967295, 4294967296, -4294967296, isize::MAX, isize::MIN] {
+        assert_eq!(rt; span(0, 1).offset(offset), None, "{offset}");
+    }
+    assert_eq!(rt; span(5, 9).subspan(4, 0), Some(span(9, 5)));
+    assert_eq!(rt; span(5, 9).subspan(5, 0), None);
+    assert_eq!(rt; span(5, 9).subspan(0, 5), None);
+    assert_eq!(rt; span(9, 5).subspan(0, 0), None);
+}
+
+// A span as the original prints it, and as a range.
+#[test]
+fn shown(rt: HostRuntime) -> Result<(), Fail> {
+    assert_eq!(rt; span(1, 4).to_string(rt.alloc())?.as_str(), "[1..4]");
+    assert_eq!(rt; span(1, 4).range(), 1..4);
+    Ok(())
 }
 
 #[test]
-fn last_kind(rt: HostRuntime) {
-    assert_eq!(rt; SyntaxKind::INVALID_UTF8.number(), 126);
-    assert!(rt; SyntaxKind::from_number(126).is_some());
-    assert!(rt; SyntaxKind::from_number(127).is_none() && SyntaxKind::from_number(65535).is_none());
-    assert!(rt; SyntaxKind::from_name("INVALID_UTF8").is_some());
-    assert!(rt; SyntaxKind::from_name("").is_none() && SyntaxKind::from_name("all_kw").is_none());
+fn last_kind(rt: HostRuntime) -> Result<(), Fail> {
+    let last = SyntaxKind::INVALID_UTF8;
+    assert_eq!(rt; last.number(), 126);
+    assert_eq!(rt; u16::from(last), 126);
+    assert_eq!(rt; SyntaxKind::from_number(126), Some(last));
+    assert_eq!(rt; SyntaxKind::try_from(126), Ok(last));
+    for number in [127, 65535] {
+        assert_eq!(rt; SyntaxKind::from_number(number), None);
+        assert_eq!(rt; SyntaxKind::try_from(number), Err(UnknownKind));
+    }
+    assert_eq!(rt; last.to_string(rt.alloc())?.as_str(), "INVALID_UTF8");
+    assert_eq!(rt; SyntaxKind::from_name("INVALID_UTF8"), Some(last));
+    assert_eq!(rt; "INVALID_UTF8".parse(), Ok(last));
+    for name in ["", "all_kw"] {
+        assert_eq!(rt; SyntaxKind::from_name(name), None);
+        assert_eq!(rt; name.parse::<SyntaxKind>(), Err(UnknownKind));
+    }
+    Ok(())
 }

@@ -1,5 +1,6 @@
 -- What the operations on spans answer.
-use Rattle.std.specs.Prelude.{ℕ, suc, ◌+◌, ◌-◌, ◌^◌, Bool, cond, not, ◌&&◌, ℤ, pos, negsuc, Some, None, Option, nat_le, nat_lt}
+use Rattle.std.specs.Prelude.{ℕ, suc, ◌+◌, ◌-◌, ◌^◌, Bool, cond, not, ◌&&◌, ℤ, pos, negsuc, Some, None, Option, nat_le, nat_lt, List, ◌++◌, codes, decimal}
+use Rattle.std.specs.declared.ops.Range.{Range}
 use Rattle.syntax.specs.declared.span.Span.{Span}
 
 abbrev pub span_of : ℕ → ℕ → Span
@@ -11,6 +12,13 @@ length_of s = s.end - s.start
 
 abbrev pub is_empty : Span → Bool
 is_empty s = not (nat_lt s.start s.end)
+
+abbrev pub range_of : Span → Range ℕ
+range_of s = record { start = s.start; end = s.end }
+
+-- the text of a span
+abbrev pub shown : Span → List ℕ
+shown s = codes "[" ++ (decimal s.start ++ (codes ".." ++ (decimal s.end ++ codes "]")))
 
 -- from the start of the first to the end of the second
 abbrev pub combined : Span → Span → Span

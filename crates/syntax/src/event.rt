@@ -5,7 +5,7 @@ use crate::span::Span;
 use kinds::SyntaxKind;
 
 // A step of the walk through a syntax tree, or an error message of the parser by its number.
-#[derive(Clone, Copy)]
+#[derive(Clone, Copy, Debug, PartialEq, Eq)]
 pub enum Event {
     Error { message: u16, span: Span },
     Begin { kind: SyntaxKind, span: Span },
@@ -28,10 +28,10 @@ impl Event {
         ensures { result ≡ span_at self.now }
     {
         match self {
-            Event::Error { span, .. } => *span,
-            Event::Begin { span, .. } => *span,
-            Event::End { span, .. } => *span,
-            Event::Token { span, .. } => *span,
+            Event::Error { span, .. }
+            | Event::Begin { span, .. }
+            | Event::End { span, .. }
+            | Event::Token { span, .. } => *span,
         }
     }
 
@@ -39,28 +39,28 @@ impl Event {
     pub fn is_trivia(&self) -> bool
         ensures { result ≡ is_trivia self.now }
     {
-        match self {
-            Event::Token { kind, .. } => {
-                *kind == SyntaxKind::WHITESPACE
-                    || *kind == SyntaxKind::NEWLINE
-                    || *kind == SyntaxKind::COMMENT
+        matches!(
+            self,
+            Event::Token {
+                kind: SyntaxKind::WHITESPACE | SyntaxKind::NEWLINE | SyntaxKind::COMMENT,
+                ..
             }
-            _ => false,
-        }
+        )
     }
 
     // Whether a condition cannot reach over it: the next rule or statement begins, or the file ends.
     pub fn is_boundary(&self) -> bool
         ensures { result ≡ is_boundary self.now }
     {
-        match self {
-            Event::Begin { kind, .. } => {
-                *kind == SyntaxKind::RULE_DECL
-                    || *kind == SyntaxKind::IMPORT_STMT
-                    || *kind == SyntaxKind::INCLUDE_STMT
+        matches!(
+            self,
+            Event::Begin {
+                kind: SyntaxKind::RULE_DECL | SyntaxKind::IMPORT_STMT | SyntaxKind::INCLUDE_STMT,
+                ..
+            } | Event::End {
+                kind: SyntaxKind::SOURCE_FILE,
+                ..
             }
-            Event::End { kind, .. } => *kind == SyntaxKind::SOURCE_FILE,
-            _ => false,
-        }
+        )
     }
 }

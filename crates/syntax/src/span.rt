@@ -1,8 +1,11 @@
-ghost use Rattle.std.specs.Prelude.{◌≡◌};
-ghost use Rattle.syntax.specs.Spans.{length_of, is_empty, combined, covers, contains_of, subspan_of, moved as moved_by, offset_of};
+ghost use Rattle.std.specs.Prelude.{◌≡◌, Some};
+ghost use Rattle.syntax.specs.Spans.{length_of, is_empty, range_of, shown, combined, covers, contains_of, subspan_of, moved as moved_by, offset_of};
+
+use std::fmt;
+use std::ops::Range;
 
 // Where a token or node stands in the source: the first byte, and the one behind the last.
-#[derive(Clone, Copy)]
+#[derive(Clone, Copy, Default, Debug, PartialEq, Eq, Hash)]
 pub struct Span {
     pub start: u32,
     pub end: u32,
@@ -31,6 +34,12 @@ impl Span {
         ensures { result ≡ is_empty self.now }
     {
         !(self.start < self.end)
+    }
+
+    pub fn range(&self) -> Range<usize>
+        ensures { result ≡ range_of self.now }
+    {
+        self.start()..self.end()
     }
 
     // From this span's start to the other's end.
@@ -79,15 +88,20 @@ impl Span {
     }
 }
 
+// Writes `[start..end]`.
+impl fmt::Display for Span {
+    ghost output = { λ s. Some (shown s) };
+
+    fn fmt<W: fmt::Write>(&self, f: &mut fmt::Formatter<W>) -> fmt::Result {
+        let start = self.start;
+        let end = self.end;
+        write!(f, "[{start}..{end}]")
+    }
+}
+
 fn moved(place: u32, by: isize) -> Option<u32>
     ensures { result ≡ moved_by place by }
 {
-    let size = by.unsigned_abs();
-    if size > u32::MAX as usize {
-        None
-    } else if by < 0 {
-        place.checked_sub(size as u32)
-    } else {
-        place.checked_add(size as u32)
-    }
+    let moved = isize::try_from(place).ok()?.checked_add(by)?;
+    u32::try_from(moved).ok()
 }

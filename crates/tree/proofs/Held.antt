@@ -1,6 +1,6 @@
 -- A layout holds its tree, and each of its slots is reached once.
-use Rattle.std.proofs.Common.{◌≡◌, ℕ, zero, suc, ◌+◌, ◌-◌, List, [], ◌∷◌, ◌++◌, length, Some, Option, sym, refl, ap, ◌∙◌, subst, zero-add, arith}
-use Rattle.kinds.specs.At.{at}
+use Rattle.std.proofs.Common.{◌≡◌, ℕ, zero, suc, ◌+◌, ◌-◌, List, [], ◌∷◌, ◌++◌, length, Some, sym, refl, ap, ◌∙◌, subst, zero-add, arith}
+use Rattle.std.specs.List.{slice_get}
 use Rattle.tree.specs.declared.slot.Slot.{Slot}
 use Rattle.tree.specs.Labels.{Name, Label, own_text, place_of, slot_of}
 use Rattle.tree.specs.Labels.Name.{in_source, decoded}
@@ -11,14 +11,12 @@ use Rattle.tree.specs.Layout.{first_of, lay_tree, lay_trees}
 use Rattle.tree.specs.Holds.{Names, Holds, Chain, reached, reached_by, up_from}
 use Rattle.tree.specs.Laws.{LayoutHolds, ReachedOnce}
 use Rattle.tree.proofs.Layouts.{length_tree, length_trees}
+use Rattle.tree.proofs.Uniqueness.{some_same}
 use Rattle.tree.proofs.Within.{Within, within_first, within_later, within_at, within_cut, within_whole}
 
 names_own : (text : List ℕ) (c : ℕ) (x : Name) → Within text c (own_text x) → Names text (place_of x c) x
 names_own text c (in_source s) w = refl
 names_own text c (decoded bytes) w = within_cut text c bytes w
-
-some_same : {A : Type 0} (x y : A) (o : Option A) → o ≡ Some x → o ≡ Some y → x ≡ y
-some_same x y o p q = cc
 
 up_last : (b k i : ℕ) → i ≡ b + k → up_from b k ++ (i ∷ []) ≡ up_from b (k + 1)
 up_last b zero i e = ap (λ j. j ∷ []) (omega (arith, e))
@@ -46,7 +44,7 @@ size_below (node l ts) = refl
 module _ (slots : List Slot) where
   pub root_at :
       (t : Tree) (b c n i : ℕ) → i ≡ b + sizes (below t) → Within slots b (lay_tree t b c n) →
-      at slots i ≡ Some (root_slot t b c n)
+      slice_get slots i ≡ Some (root_slot t b c n)
   root_at (node l ts) b c n i e w =
       let d : ℕ = c + length (own_text l.name) in
       within_at slots i (slot_of l c (first_of b ts) n) []
@@ -117,7 +115,7 @@ module _ (slots : List Slot) where
           (t : Tree) (b c n i : ℕ) → i ≡ b + sizes (below t) → Within slots b (lay_tree t b c n) → (h : Holds slots text i t) →
           reached slots text i t h ≡ up_from b (size t)
       tree_reached (node l ts) b c n i e w h =
-          let s = some_same h.0 (slot_of l c (first_of b ts) n) (at slots i) h.1 (root_at (node l ts) b c n i e w) in
+          let s = some_same h.0 (slot_of l c (first_of b ts) n) (slice_get slots i) h.1 (root_at (node l ts) b c n i e w) in
           ap (λ q. q ++ (i ∷ []))
           (trees_reached ts b (c + length (own_text l.name)) h.0.first (ap (λ x. x.first) s)
           (below_in l ts b c n w)
@@ -131,7 +129,7 @@ module _ (slots : List Slot) where
       trees_reached (more t ts) b c link e w h =
           let k : ℕ = first_of (b + size t) ts in
           let n : h.0 ≡ b + sizes (below t) = omega (arith, e, h.2, size_below t) in
-          let s = some_same h.1 (root_slot t b c k) (at slots h.0) h.3 (root_at t b c k h.0 n (first_in t ts b c w)) in
+          let s = some_same h.1 (root_slot t b c k) (slice_get slots h.0) h.3 (root_at t b c k h.0 n (first_in t ts b c w)) in
           ap (λ q. q ++ reached_by slots text h.1.next ts h.5) (tree_reached t b c k h.0 n (first_in t ts b c w) h.4)
           ∙ ap (λ q. up_from b (size t) ++ q)
           (trees_reached ts (b + size t) (c + length (text_of t)) h.1.next (ap (λ x. x.next) s ∙ root_next t b c k)

@@ -7,8 +7,10 @@ use Rattle.tree.specs.Trees.{Tree, Trees, behind, size, sizes, text_of, texts_of
 use Rattle.tree.specs.Trees.Tree.{node}
 use Rattle.tree.specs.Trees.Trees.{none, more}
 use Rattle.tree.specs.Layout.{first_of, lay_tree, lay_trees}
-use Rattle.tree.specs.Memory.{overlay, set_next}
-use Rattle.tree.proofs.Stores.{overlay-++, set_next_last}
+use Rattle.lent.specs.Lists.{overlay}
+use Rattle.lent.proofs.Overlays.{overlay-++}
+use Rattle.tree.specs.Memory.{set_next}
+use Rattle.tree.proofs.Stores.{set_next_last}
 
 mutual
   pub length_tree : (t : Tree) (b c n : ℕ) → length (lay_tree t b c n) ≡ size t

@@ -1,4 +1,4 @@
-pub mod Inverse
+pub mod Flags
 pub mod Counts
 pub mod Stores
 pub mod Layouts

@@ -7,11 +7,13 @@ use Rattle.tree.specs.Trees.{Tree, Trees, behind, size, sizes, text_of, texts_of
 use Rattle.tree.specs.Trees.Tree.{node}
 use Rattle.tree.specs.Trees.Trees.{none, more}
 use Rattle.tree.specs.Layout.{lay_tree, lay_trees, layout}
-use Rattle.tree.specs.Memory.{overlay, fit, blanked_from, Memory, counted, linked, with_first, placed, pushed, texted, tidied, adopted_root, adopted_slots, adopted, root_of, below_laid, laid, Pending}
+use Rattle.tree.specs.Memory.{Memory, linked, with_first, placed, pushed, texted, tidied, adopted_root, adopted_slots, adopted, root_of, below_laid, laid, Pending}
+use Rattle.lent.specs.Lists.{counted, overlay, fit, blanked_from}
+use Rattle.lent.proofs.Overlays.{overlay-++, blanked_fit}
 use Rattle.tree.specs.Laws.{Lays, Grows, Writes, Done, Completes}
-use Rattle.tree.proofs.Stores.{overlay-++, set_next_before, linked_at}
+use Rattle.tree.proofs.Stores.{set_next_before, linked_at}
 use Rattle.tree.proofs.Layouts.{length_tree, lay_node, lay_behind, sizes_behind, texts_behind, size_pos}
-use Rattle.tree.proofs.Fits.{blanked_fit, fit_within}
+use Rattle.tree.proofs.Fits.{fit_within}
 use Rattle.tree.proofs.Within.{Within}
 use Rattle.tree.proofs.Held.{last_of, tree_held, tree_reached}
 
@@ -159,12 +161,12 @@ completes m t m₀ u w e =
     }
 
 -- a node with nothing below it and no text of its own
-pub leaf_pending :
-    (l : Label) (m : Memory) → own_text l.name ≡ [] → Pending (node l none) m (slot_of l m.written 0 0) m
-leaf_pending l m e =
+pub leaf_pending_at :
+    (l : Label) (m : Memory) (s : Slot) → own_text l.name ≡ [] → s ≡ slot_of l m.written 0 0 → Pending (node l none) m s m
+leaf_pending_at l m s e f =
     let no_text : text_of (node l none) ≡ [] = append-nil (own_text l.name) ∙ e in
     record {
-      root = refl;
+      root = f;
       memory =
           same_memory m (below_laid (node l none) m) refl (omega arith)
           (ap (λ x. overlay m.text m.written x) (sym no_text))
@@ -235,12 +237,6 @@ pub writes_from : (byte : ℕ) (m m' : Memory) → m' ≡ pushed byte m → Writ
 writes_from byte m m' e bytes m₀ f h =
     let at : m.written ≡ m₀.written + length bytes = ap (λ (x : Memory). x.written) f in
     e ∙ ap (λ x. pushed byte x) f ∙ texted_more bytes byte m₀ (omega (arith, at, h))
-
-pub leaf_pending_at :
-    (l : Label) (m : Memory) (s : Slot) → own_text l.name ≡ [] → s ≡ slot_of l m.written 0 0 → Pending (node l none) m s m
-leaf_pending_at l m s e f =
-    let p = leaf_pending l m e in
-    record { root = f ∙ p.root; memory = p.memory }
 
 -- a new node above a root: the law of a further child, of a parent that has none yet
 pub raised :

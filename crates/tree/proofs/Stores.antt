@@ -1,17 +1,9 @@
--- Writing over lists.
-use Rattle.std.proofs.Common.{◌≡◌, ℕ, zero, suc, ◌+◌, ◌-◌, ◌<◌, ◌≤◌, List, [], ◌∷◌, ◌++◌, length, get_or, set, sym, refl, ap, ◌∙◌, le_of_suc-le-suc, arith, length-set}
+-- Slots that get a sibling.
+use Rattle.std.proofs.Common.{◌≡◌, ℕ, zero, suc, ◌+◌, ◌-◌, ◌<◌, ◌≤◌, List, [], ◌∷◌, ◌++◌, length, get_or, set, sym, refl, ap, ◌∙◌, le_of_suc-le-suc, arith}
 use Rattle.tree.specs.declared.slot.Slot.{Slot}
-use Rattle.tree.specs.Memory.{overlay, with_next, set_next, linked}
-
-pub overlay-++ :
-    {A : Type 0} (m : List A) (b : ℕ) (xs ys : List A) → overlay m b (xs ++ ys) ≡ overlay (overlay m b xs) (b + length xs) ys
-overlay-++ m b [] ys = ap (λ k. overlay m k ys) (omega arith)
-overlay-++ m b (x ∷ xs) ys =
-    overlay-++ (set m b x) (b + 1) xs ys ∙ ap (λ k. overlay (overlay (set m b x) (b + 1) xs) k ys) (omega arith)
-
-pub length_overlay : {A : Type 0} (m : List A) (b : ℕ) (xs : List A) → length (overlay m b xs) ≡ length m
-length_overlay m b [] = refl
-length_overlay m b (x ∷ xs) = length_overlay (set m b x) (b + 1) xs ∙ length-set m b x
+use Rattle.lent.specs.Lists.{overlay}
+use Rattle.lent.proofs.Overlays.{overlay-++}
+use Rattle.tree.specs.Memory.{with_next, set_next, linked}
 
 set_next_past : (m : List Slot) (i n : ℕ) → length m ≤ i → set_next m i n ≡ m
 set_next_past [] i n h = refl

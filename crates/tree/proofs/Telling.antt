@@ -1,11 +1,10 @@
 -- What the reading calls answer of a tree that slots hold.
-use Rattle.std.proofs.Common.{◌≡◌, ℕ, suc, ◌+◌, Bool, true, false, cond, not, ◌&&◌, eqb, List, length, Option, sym, refl, ap, ◌∙◌, subst, inl, inr, add-one, arith}
-use lib.Bits.{bit_and}
+use Rattle.std.proofs.Common.{◌≡◌, ℕ, suc, ◌+◌, false, cond, List, length, Option, sym, refl, ap, ◌∙◌, subst, inl, inr, add-one, arith}
 use Rattle.std.specs.Option.{option_map}
 use Rattle.syntax.specs.declared.span.Span.{Span}
 use Rattle.tree.specs.declared.read.Origin.TheVariants.{Source, Decoded}
 use Rattle.tree.specs.declared.slot.Slot.{Slot}
-use Rattle.tree.specs.Labels.{Flags, Name, Label, is_decoded, flag_number}
+use Rattle.tree.specs.Labels.{Name, Label, is_decoded, flag_number}
 use Rattle.tree.specs.Labels.Name.{in_source, decoded}
 use Rattle.tree.specs.Parts.{cut}
 use Rattle.tree.specs.Reads.{Leaf, Reading, has, bytes_of, reading_of, leaf_in, leaf_at, leaf_of, operands_at, operands_of, Siblings}
@@ -16,62 +15,8 @@ use Rattle.tree.specs.Trees.{Trees}
 use Rattle.tree.specs.Trees.Trees.{none, more}
 use Rattle.tree.specs.Holds.{Names, Shows, Chain, bytes_named}
 use Rattle.tree.specs.Tells.{origin_named, leaf_said, Decodes, Tells, count, Counts}
+use Rattle.tree.proofs.Flags.{flagged, unsigned_read, insensitive_read, dot_read, decoded_read}
 use Rattle.tree.proofs.Counts.{runs}
-
--- a test of all truth values
-abbrev all : (Bool → Bool) → Bool
-all f = f true && f false
-
-from_all : (f : Bool → Bool) → all f ≡ true → (b : Bool) → f b ≡ true
-from_all f e b = go (f true) (f false) refl refl e b
-  where
-    go : (x y : Bool) → f true ≡ x → f false ≡ y → (x && y) ≡ true → (c : Bool) → f c ≡ true
-    go true true p q r true = p
-    go true true p q r false = q
-    go true false p q r c = absurd (let z : ◌≡◌ {A = ℕ} 0 1 = cc in omega arith)
-    go false y p q r c = absurd (let z : ◌≡◌ {A = ℕ} 0 1 = cc in omega arith)
-
-abbrev agree : Bool → Bool → Bool
-agree true b = b
-agree false b = not b
-
-agreed : (a b : Bool) → agree a b ≡ true → a ≡ b
-agreed true true e = refl
-agreed true false e = absurd (let z : ◌≡◌ {A = ℕ} 0 1 = cc in omega arith)
-agreed false true e = absurd (let z : ◌≡◌ {A = ℕ} 0 1 = cc in omega arith)
-agreed false false e = refl
-
-both : (a b : Bool) → (a && b) ≡ true → (a ≡ true) × (b ≡ true)
-both true true e = (refl, refl)
-both true false e = absurd (let z : ◌≡◌ {A = ℕ} 0 1 = cc in omega arith)
-both false b e = absurd (let z : ◌≡◌ {A = ℕ} 0 1 = cc in omega arith)
-
-abbrev flagged : ℕ → ℕ → Bool
-flagged flag n = not (eqb (bit_and n flag) 0)
-
-abbrev flags_of : Bool → Bool → Bool → Bool → Bool → Flags
-flags_of u i s w o =
-    record { unsigned = u; case_insensitive = i; dot_matches_new_line = s; wildcard = w; object = o }
-
--- each flag that is read is the label's
-abbrev fair : Bool → Bool → Bool → Bool → Bool → Bool → Bool
-fair u i s w o d =
-    let n : ℕ = flag_number (flags_of u i s w o) d in
-    agree (flagged 1 n) u && (agree (flagged 2 n) i && (agree (flagged 4 n) s && agree (flagged 32 n) d))
-
-all_fair : (u i s w o d : Bool) → fair u i s w o d ≡ true
-all_fair u i s w o d =
-    from_all (λ x. fair u i s w o x)
-    (from_all (λ y. all (λ x. fair u i s w y x))
-    (from_all (λ z. all (λ y. all (λ x. fair u i s z y x)))
-    (from_all (λ a. all (λ z. all (λ y. all (λ x. fair u i a z y x))))
-    (from_all (λ b. all (λ a. all (λ z. all (λ y. all (λ x. fair u b a z y x)))))
-    (from_all (λ c. all (λ b. all (λ a. all (λ z. all (λ y. all (λ x. fair c b a z y x)))))) refl u)
-    i)
-    s)
-    w)
-    o)
-    d
 
 -- what a slot's flags say of a label
 record Flagged (s : Slot) (l : Label) : Type 0 where
@@ -82,19 +27,11 @@ record Flagged (s : Slot) (l : Label) : Type 0 where
 
 flags_say : (s : Slot) (l : Label) → s.flags ≡ flag_number l.flags (is_decoded l.name) → Flagged s l
 flags_say s l e =
-    let f : Flags = l.flags in
-    let d : Bool = is_decoded l.name in
-    let n : ℕ = flag_number f d in
-    let t =
-    all_fair f.unsigned f.case_insensitive f.dot_matches_new_line f.wildcard f.object d in
-    let p = both (agree (flagged 1 n) f.unsigned) _ t in
-    let q = both (agree (flagged 2 n) f.case_insensitive) _ p.1 in
-    let r = both (agree (flagged 4 n) f.dot_matches_new_line) (agree (flagged 32 n) d) q.1 in
     record {
-      unsigned = ap (flagged 1) e ∙ agreed (flagged 1 n) f.unsigned p.0;
-      insensitive = ap (flagged 2) e ∙ agreed (flagged 2 n) f.case_insensitive q.0;
-      dot = ap (flagged 4) e ∙ agreed (flagged 4 n) f.dot_matches_new_line r.0;
-      in_text = ap (flagged 32) e ∙ agreed (flagged 32 n) d r.1;
+      unsigned = ap (flagged 1) e ∙ unsigned_read l.flags (is_decoded l.name);
+      insensitive = ap (flagged 2) e ∙ insensitive_read l.flags (is_decoded l.name);
+      dot = ap (flagged 4) e ∙ dot_read l.flags (is_decoded l.name);
+      in_text = ap (flagged 32) e ∙ decoded_read l.flags (is_decoded l.name);
     }
 
 -- a name in the source

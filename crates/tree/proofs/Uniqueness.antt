@@ -1,75 +1,30 @@
 -- The tree that slots hold from a number is unique.
-use Rattle.std.proofs.Common.{◌≡◌, ℕ, ◌+◌, Bool, true, false, List, Some, Option, sym, refl, ap, ◌∙◌, subst, arith}
-use Rattle.kinds.specs.At.{at}
+use Rattle.std.proofs.Common.{◌≡◌, ℕ, Bool, List, Some, Option, sym, refl, ap, ◌∙◌, subst, arith}
+use Rattle.std.specs.List.{slice_get}
 use Rattle.syntax.specs.declared.span.Span.{Span}
 use Rattle.tree.specs.declared.slot.Slot.{Slot}
-use Rattle.tree.specs.Labels.{Flags, Name, Label, bit, is_decoded, flag_number}
+use Rattle.tree.specs.Labels.{Flags, Name, Label, is_decoded, flag_number}
 use Rattle.tree.specs.Labels.Name.{in_source, decoded}
 use Rattle.tree.specs.Trees.{Tree, Trees}
 use Rattle.tree.specs.Trees.Tree.{node}
 use Rattle.tree.specs.Trees.Trees.{none, more}
 use Rattle.tree.specs.Holds.{Names, Shows, Holds, Chain}
 use Rattle.tree.specs.Laws.{OneTree}
-
--- a binary digit in front of others
-abbrev digit : Bool → ℕ → ℕ
-digit a n = bit 1 a + (n + n)
-
-digit_same : (a b : Bool) (m n : ℕ) → digit a m ≡ digit b n → (a ≡ b) × (m ≡ n)
-digit_same true true m n e = (refl, omega (arith, e))
-digit_same true false m n e = absurd (omega (arith, e))
-digit_same false true m n e = absurd (omega (arith, e))
-digit_same false false m n e = (refl, omega (arith, e))
-
-bit_double : (a : Bool) (n : ℕ) → bit (n + n) a ≡ bit n a + bit n a
-bit_double true n = refl
-bit_double false n = refl
-
--- flags as binary digits
-flag_digits :
-    (f : Flags) (a : Bool) →
-    flag_number f a
-    ≡ digit f.unsigned
-    (digit f.case_insensitive (digit f.dot_matches_new_line (digit f.wildcard (digit f.object (digit a 0)))))
-flag_digits f a =
-    omega (
-      arith,
-      bit_double f.case_insensitive 1,
-      bit_double f.dot_matches_new_line 1,
-      bit_double f.dot_matches_new_line 2,
-      bit_double f.wildcard 1,
-      bit_double f.wildcard 2,
-      bit_double f.wildcard 4,
-      bit_double f.object 1,
-      bit_double f.object 2,
-      bit_double f.object 4,
-      bit_double f.object 8,
-      bit_double a 1,
-      bit_double a 2,
-      bit_double a 4,
-      bit_double a 8,
-      bit_double a 16,
-    )
+use Rattle.tree.proofs.Flags.{flagged, unsigned_read, insensitive_read, dot_read, wildcard_read, object_read, decoded_read}
 
 -- the flags that a number stands for
 flags_same : (f g : Flags) (a b : Bool) → flag_number f a ≡ flag_number g b → (f ≡ g) × (a ≡ b)
-flags_same f g a b e =
-    let u = digit_same f.unsigned g.unsigned _ _ (sym (flag_digits f a) ∙ e ∙ flag_digits g b) in
-    let i = digit_same f.case_insensitive g.case_insensitive _ _ u.1 in
-    let s = digit_same f.dot_matches_new_line g.dot_matches_new_line _ _ i.1 in
-    let w = digit_same f.wildcard g.wildcard _ _ s.1 in
-    let o = digit_same f.object g.object _ _ w.1 in
-    let d = digit_same a b 0 0 o.1 in (
-      (λ j.
-          record {
-            unsigned = u.0 j;
-            case_insensitive = i.0 j;
-            dot_matches_new_line = s.0 j;
-            wildcard = w.0 j;
-            object = o.0 j;
-          }),
-      d.0,
-    )
+flags_same f g a b e = (
+  (λ j.
+      record {
+        unsigned = (sym (unsigned_read f a) ∙ ap (flagged 1) e ∙ unsigned_read g b) j;
+        case_insensitive = (sym (insensitive_read f a) ∙ ap (flagged 2) e ∙ insensitive_read g b) j;
+        dot_matches_new_line = (sym (dot_read f a) ∙ ap (flagged 4) e ∙ dot_read g b) j;
+        wildcard = (sym (wildcard_read f a) ∙ ap (flagged 8) e ∙ wildcard_read g b) j;
+        object = (sym (object_read f a) ∙ ap (flagged 16) e ∙ object_read g b) j;
+      }),
+  sym (decoded_read f a) ∙ ap (flagged 32) e ∙ decoded_read g b,
+)
 
 names_same : (text : List ℕ) (p : Span) (x y : Name) → is_decoded x ≡ is_decoded y → Names text p x → Names text p y → x ≡ y
 names_same text p (in_source s) (in_source t) e h k = ap in_source (sym h ∙ k)
@@ -90,14 +45,15 @@ shows_same text s l k p q =
       float = (sym p.float ∙ q.float) i;
     }
 
-some_same : {A : Type 0} (x y : A) (o : Option A) → o ≡ Some x → o ≡ Some y → x ≡ y
+-- what stands at one place is one thing
+pub some_same : {A : Type 0} (x y : A) (o : Option A) → o ≡ Some x → o ≡ Some y → x ≡ y
 some_same x y o p q = cc
 
 module _ (slots : List Slot) (text : List ℕ) where
   mutual
     tree_same : (n m : ℕ) (t u : Tree) → n ≡ m → Holds slots text n t → Holds slots text m u → t ≡ u
     tree_same n m (node l ts) (node k us) e h g =
-        let s : h.0 ≡ g.0 = some_same h.0 g.0 (at slots n) h.1 (ap (at slots) e ∙ g.1) in
+        let s : h.0 ≡ g.0 = some_same h.0 g.0 (slice_get slots n) h.1 (ap (slice_get slots) e ∙ g.1) in
         let S : Slot → Type 0 = λ x. Shows text x l in
         let C : Slot → Type 0 = λ x. Chain slots text x.first ts in
         let labels = shows_same text g.0 l k (subst S s h.2) g.2 in
@@ -110,7 +66,7 @@ module _ (slots : List Slot) (text : List ℕ) where
     trees_same i j (more t ts) none e h g = absurd (omega (arith, e, g, h.2))
     trees_same i j (more t ts) (more u us) e h g =
         let n : h.0 ≡ g.0 = omega (arith, e, h.2, g.2) in
-        let s : h.1 ≡ g.1 = some_same h.1 g.1 (at slots h.0) h.3 (ap (at slots) n ∙ g.3) in
+        let s : h.1 ≡ g.1 = some_same h.1 g.1 (slice_get slots h.0) h.3 (ap (slice_get slots) n ∙ g.3) in
         let first = tree_same h.0 g.0 t u n h.4 g.4 in
         let others = trees_same h.1.next g.1.next ts us (ap (λ x. x.next) s) h.5 g.5 in
         ap (λ x. more x ts) first ∙ ap (λ x. more u x) others

@@ -1,7 +1,7 @@
 -- A list that stands within another from an index on.
 use Rattle.std.proofs.Common.{◌≡◌, ℕ, ◌+◌, ◌-◌, true, cond, ◌&&◌, leb, List, [], ◌∷◌, ◌++◌, length, take, drop, Some, None, sym, refl, ap, ◌∙◌, arith, length-append, le-leb}
 use Rattle.std.proofs.lemmas.List.{append-nil, append_assoc, take_at, drop_at}
-use Rattle.kinds.specs.At.{at}
+use Rattle.std.specs.List.{slice_get}
 use Rattle.syntax.specs.Spans.{span_of}
 use Rattle.tree.specs.Parts.{cut}
 
@@ -32,13 +32,13 @@ within_later xs b c ys zs e w =
       far = length-append w.before ys ∙ omega (arith, w.far, e);
     }
 
-at_front : {A : Type 0} (ys : List A) (x : A) (zs : List A) → at (ys ++ (x ∷ zs)) (length ys) ≡ Some x
+at_front : {A : Type 0} (ys : List A) (x : A) (zs : List A) → slice_get (ys ++ (x ∷ zs)) (length ys) ≡ Some x
 at_front [] x zs = refl
 at_front (y ∷ ys) x zs = at_front ys x zs
 
-pub within_at : {A : Type 0} (xs : List A) (b : ℕ) (x : A) (ys : List A) → Within xs b (x ∷ ys) → at xs b ≡ Some x
+pub within_at : {A : Type 0} (xs : List A) (b : ℕ) (x : A) (ys : List A) → Within xs b (x ∷ ys) → slice_get xs b ≡ Some x
 within_at xs b x ys w =
-    ap (λ n. at xs n) (sym w.far) ∙ ap (λ l. at l (length w.before)) w.is
+    ap (λ n. slice_get xs n) (sym w.far) ∙ ap (λ l. slice_get l (length w.before)) w.is
     ∙ at_front w.before x (ys ++ w.after)
 
 -- the bytes at their place

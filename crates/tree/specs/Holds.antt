@@ -1,6 +1,6 @@
 -- That slots hold a tree, by their links alone; and a tree's shape.
 use Rattle.std.specs.Prelude.{◌≡◌, ℕ, zero, suc, ◌+◌, cond, List, [], ◌∷◌, ◌++◌, ℤ, Some, Option, Float}
-use Rattle.kinds.specs.At.{at}
+use Rattle.std.specs.List.{slice_get}
 use Rattle.syntax.specs.declared.span.Span.{Span}
 use Rattle.tree.specs.declared.node.NodeKind.{NodeKind}
 use Rattle.tree.specs.declared.node.NodeKind.TheVariants.{LiteralInteger}
@@ -32,12 +32,12 @@ pub record Shows (text : List ℕ) (s : Slot) (l : Label) : Type 0 where
 abbrev mutual
   pub Holds : List Slot → List ℕ → ℕ → Tree → Type 0
   Holds slots text n (node l ts) =
-      (s : Slot) × (at slots n ≡ Some s) × Shows text s l × Chain slots text s.first ts
+      (s : Slot) × (slice_get slots n ≡ Some s) × Shows text s l × Chain slots text s.first ts
 
   pub Chain : List Slot → List ℕ → ℕ → Trees → Type 0
   Chain slots text link none = link ≡ 0
   Chain slots text link (more t ts) =
-      (n : ℕ) × (s : Slot) × (link ≡ n + 1) × (at slots n ≡ Some s) × Holds slots text n t
+      (n : ℕ) × (s : Slot) × (link ≡ n + 1) × (slice_get slots n ≡ Some s) × Holds slots text n t
       × Chain slots text s.next ts
 
 -- the numbers of the slots that links lead to from slot n, which holds a tree; its own last

@@ -4,7 +4,8 @@ use Rattle.tree.specs.declared.slot.Slot.{Slot}
 use Rattle.tree.specs.Labels.{blank_slot}
 use Rattle.tree.specs.Trees.{Tree, below, size, sizes, text_of}
 use Rattle.tree.specs.Layout.{layout}
-use Rattle.tree.specs.Memory.{fit, Memory, Pending, grown, texted, laid}
+use Rattle.lent.specs.Lists.{fit}
+use Rattle.tree.specs.Memory.{Memory, Pending, grown, texted, laid}
 use Rattle.tree.specs.Holds.{Holds, reached, up_from}
 
 -- the layout holds its tree from its last slot

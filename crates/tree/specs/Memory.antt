@@ -1,26 +1,12 @@
 -- Lent memory that a tree is placed in, node by node. The counters go on where the memory is full.
-use Rattle.std.specs.Prelude.{◌≡◌, ℕ, zero, suc, ◌+◌, ◌-◌, ◌^◌, min, cond, List, [], ◌∷◌, ◌++◌, length, take, replicate, ◌==◌, slice_set}
+use Rattle.std.specs.Prelude.{◌≡◌, ℕ, zero, suc, ◌+◌, cond, List, [], ◌∷◌, length, replicate, ◌==◌, slice_set}
+use Rattle.lent.specs.Lists.{counted, overlay, blanked_from}
 use Rattle.tree.specs.declared.slot.Slot.{Slot}
 use Rattle.tree.specs.declared.place.Placer.{Placer}
 use Rattle.tree.specs.Labels.{own_text, slot_of, blank_slot}
 use Rattle.tree.specs.Trees.{Tree, size, sizes, behind, text_of}
 use Rattle.tree.specs.Trees.Tree.{node}
 use Rattle.tree.specs.Layout.{first_of, lay_tree, lay_trees}
-
--- xs over m from index b on, cut at the end of m
-abbrev pub overlay : {A : Type 0} → List A → ℕ → List A → List A
-overlay m b [] = m
-overlay m b (x ∷ xs) = overlay (slice_set m b x) (b + 1) xs
-
--- n places, filled from a list as far as it goes in, then with blanks
-abbrev pub fit : {A : Type 0} → A → ℕ → List A → List A
-fit blank zero xs = []
-fit blank (suc n) [] = blank ∷ fit blank n []
-fit blank (suc n) (x ∷ xs) = x ∷ fit blank n xs
-
--- m, with blanks from index n on
-abbrev pub blanked_from : {A : Type 0} → A → ℕ → List A → List A
-blanked_from blank n m = take n m ++ replicate (length m - n) blank
 
 -- slots and text with what is used of them, or would be if there were enough
 pub record Memory : Type 0 where
@@ -32,35 +18,11 @@ pub record Memory : Type 0 where
 abbrev pub memory_of : Placer → Memory
 memory_of p = record { slots = p.slots.now; used = p.used; text = p.text.now; written = p.written }
 
--- one more; a counter stops at its largest value, more than any memory has places
-abbrev pub counted : ℕ → ℕ
-counted n = min (n + 1) (2 ^ 64 - 1)
-
 abbrev pub with_first : Slot → ℕ → Slot
-with_first s n =
-    record {
-      span = s.span;
-      name = s.name;
-      first = n;
-      next = s.next;
-      value = s.value;
-      float = s.float;
-      kind = s.kind;
-      flags = s.flags;
-    }
+with_first s n = record s { first = n }
 
 abbrev pub with_next : Slot → ℕ → Slot
-with_next s n =
-    record {
-      span = s.span;
-      name = s.name;
-      first = s.first;
-      next = n;
-      value = s.value;
-      float = s.float;
-      kind = s.kind;
-      flags = s.flags;
-    }
+with_next s n = record s { next = n }
 
 -- slot i, if there is one, gets a sibling
 abbrev pub set_next : List Slot → ℕ → ℕ → List Slot
@@ -75,43 +37,20 @@ linked m (suc i) n = set_next m i n
 
 -- a slot behind those that are used
 abbrev pub placed : Slot → Memory → Memory
-placed s m =
-    record {
-      slots = slice_set m.slots m.used s;
-      used = counted m.used;
-      text = m.text;
-      written = m.written;
-    }
+placed s m = record m { slots = slice_set m.slots m.used s; used = counted m.used }
 
 -- a byte behind the text that is written
 abbrev pub pushed : ℕ → Memory → Memory
-pushed byte m =
-    record {
-      slots = m.slots;
-      used = m.used;
-      text = slice_set m.text m.written byte;
-      written = counted m.written;
-    }
+pushed byte m = record m { text = slice_set m.text m.written byte; written = counted m.written }
 
 -- bytes behind the text that is written
 abbrev pub texted : List ℕ → Memory → Memory
-texted bytes m =
-    record {
-      slots = m.slots;
-      used = m.used;
-      text = overlay m.text m.written bytes;
-      written = m.written + length bytes;
-    }
+texted bytes m = record m { text = overlay m.text m.written bytes; written = m.written + length bytes }
 
 -- blanks behind what is used
 abbrev pub tidied : Memory → Memory
 tidied m =
-    record {
-      slots = blanked_from blank_slot m.used m.slots;
-      used = m.used;
-      text = blanked_from 0 m.written m.text;
-      written = m.written;
-    }
+    record m { slots = blanked_from blank_slot m.used m.slots; text = blanked_from 0 m.written m.text }
 
 -- blanks everywhere
 abbrev pub cleared : Memory → Memory
@@ -132,11 +71,9 @@ adopted_slots parent last link m = cond (parent.first == 0) m (linked m last lin
 
 abbrev pub adopted : Slot → ℕ → Slot → Memory → Memory
 adopted parent last child m =
-    record {
+    record m {
       slots = adopted_slots parent last (counted m.used) (slice_set m.slots m.used child);
       used = counted m.used;
-      text = m.text;
-      written = m.written;
     }
 
 -- the same memory is lent

@@ -1,7 +1,7 @@
 -- What can be read from a slot, whatever the slots hold.
 use Rattle.std.specs.Prelude.{◌≡◌, ℕ, zero, suc, ◌+◌, ◌≤◌, Bool, true, false, cond, not, List, length, ℤ, Some, None, Option, ◌==◌, bit_and, Float}
 use Rattle.std.specs.Option.{option_map}
-use Rattle.kinds.specs.At.{at}
+use Rattle.std.specs.List.{slice_get}
 use Rattle.tree.specs.declared.node.NodeKind.{NodeKind}
 use Rattle.tree.specs.declared.node.NodeKind.TheVariants as kind
 use Rattle.tree.specs.declared.read.Content.{Content}
@@ -127,7 +127,7 @@ leaf_at (Some s) source decoded = leaf_in (reading_of s.kind) s source decoded
 
 -- the content of slot n, if there is such a slot
 abbrev pub leaf_of : List Slot → ℕ → List ℕ → List ℕ → Option Leaf
-leaf_of slots n source decoded = leaf_at (at slots n) source decoded
+leaf_of slots n source decoded = leaf_at (slice_get slots n) source decoded
 
 -- the float of slot n, if it holds one
 abbrev pub float_in : Bool → Slot → Option Float
@@ -139,7 +139,7 @@ float_at None = None
 float_at (Some s) = float_in (same s.kind kind.LiteralFloat) s
 
 abbrev pub float_of : List Slot → ℕ → Option Float
-float_of slots n = float_at (at slots n)
+float_of slots n = float_at (slice_get slots n)
 
 abbrev pub one_more : Option ℕ → Option ℕ
 one_more r = option_map (λ n. n + 1) r
@@ -153,7 +153,7 @@ count_at go (Some s) = one_more (go s.next)
 abbrev pub count_from : List Slot → ℕ → ℕ → Option ℕ
 count_from slots room zero = Some 0
 count_from slots zero (suc n) = None
-count_from slots (suc room) (suc n) = count_at (count_from slots room) (at slots n)
+count_from slots (suc room) (suc n) = count_at (count_from slots room) (slice_get slots n)
 
 abbrev pub operands_at : List Slot → Option Slot → Option ℕ
 operands_at slots None = None
@@ -161,16 +161,16 @@ operands_at slots (Some s) = count_from slots (length slots) s.first
 
 -- how many children slot n has
 abbrev pub operands_of : List Slot → ℕ → Option ℕ
-operands_of slots n = operands_at slots (at slots n)
+operands_of slots n = operands_at slots (slice_get slots n)
 
 -- a link and the number of siblings from there on: each link leads to a slot, the last leads nowhere
 pub data Siblings (slots : List Slot) : ℕ → ℕ → Type 0 where
   stop : Siblings slots zero zero
-  onward : {k n : ℕ} {s : Slot} → at slots k ≡ Some s → Siblings slots s.next n → Siblings slots (suc k) (suc n)
+  onward : {k n : ℕ} {s : Slot} → slice_get slots k ≡ Some s → Siblings slots s.next n → Siblings slots (suc k) (suc n)
 
 -- slot n has this many children, and no more than there are slots
 pub record Children (slots : List Slot) (n count : ℕ) : Type 0 where
   pub slot : Slot
-  pub there : at slots n ≡ Some slot
+  pub there : slice_get slots n ≡ Some slot
   pub siblings : Siblings slots slot.first count
   pub few : count ≤ length slots

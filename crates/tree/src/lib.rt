@@ -10,5 +10,5 @@ mod slot;
 pub use laws::{layout_holds, one_tree, reached_once};
 pub use node::NodeKind;
 pub use place::Placer;
-pub use read::{Content, Origin, float, leaf, operands, part, slot_leaf};
+pub use read::{Content, Origin, Tree, part};
 pub use slot::{CASE_INSENSITIVE, DECODED, DOT_MATCHES_NEW_LINE, OBJECT, Slot, UNSIGNED, WILDCARD};

@@ -1,8 +1,10 @@
 ghost use Rattle.std.specs.Prelude.{◌≡◌, Some};
-ghost use Rattle.tree.specs.Kinds.{number_of, kind_of, name_of, same, same_laws};
+ghost use Rattle.tree.specs.Kinds.{number_of, kind_of, name_of};
+
+use std::fmt;
 
 // What a node is: the blank first, then the original's kinds of expression in its order, then their parts.
-#[derive(Clone, Copy)]
+#[derive(Clone, Copy, Debug, PartialEq, Eq)]
 #[repr(u8)]
 pub enum NodeKind {
     Blank,
@@ -81,7 +83,7 @@ impl NodeKind {
         self as u8
     }
 
-    // The kind's name, as it is written above.
+    // The kind's name, as it is written above. A derived Debug writes it too, but its contract says nothing of that.
     pub fn name(self) -> &'static str
         ensures { result.now ≡ name_of self }
     {
@@ -155,12 +157,10 @@ impl NodeKind {
     }
 }
 
-impl PartialEq for NodeKind {
-    ghost eq = { λ a b. same a b };
+impl fmt::Display for NodeKind {
+    ghost output = { λ kind. Some (name_of kind) };
 
-    ghost laws = { same_laws };
-
-    fn eq(&self, other: &NodeKind) -> bool {
-        self.number() == other.number()
+    fn fmt<W: fmt::Write>(&self, f: &mut fmt::Formatter<W>) -> fmt::Result {
+        f.write_str(self.name())
     }
 }

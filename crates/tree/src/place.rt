@@ -1,11 +1,14 @@
-ghost use Rattle.std.specs.Prelude.{◌≡◌, ◌&&◌, length, nat_le, slice_set};
+ghost use Rattle.std.specs.Prelude.{◌≡◌, ◌&&◌, length, nat_le};
+ghost use Rattle.lent.specs.Lists.{counted};
 ghost use Rattle.tree.specs.Laws.{Lays, Grows, Writes, Completes};
-ghost use Rattle.tree.specs.Memory.{memory_of, counted, linked, placed, pushed, adopted, adopted_root, blanked_from, tidied, cleared, Leaves};
+ghost use Rattle.tree.specs.Memory.{memory_of, linked, placed, pushed, adopted, adopted_root, tidied, cleared, Leaves};
 
 use crate::slot::Slot;
+use lent::{blank_from, put};
 
 // Lent slots and text that a tree is placed in, and a root that is not placed yet while all below it is.
 // `used` and `written` count on where the memory is full.
+// Two `Lent`s were tried: what the slots hold is lost where a placer is dropped, so that a caller's proof does not close.
 #[derive(Drop)]
 pub struct Placer<'s> {
     pub slots: &'s mut [Slot],
@@ -13,15 +16,6 @@ pub struct Placer<'s> {
     pub text: &'s mut [u8],
     pub written: usize,
     pub root: Slot,
-}
-
-// Writes an item, if there is such a place.
-fn keep<T: Copy>(row: &mut [T], at: usize, item: T)
-    ensures { row.new ≡ slice_set row.old at item }
-{
-    if at < row.len() {
-        row[at] = item;
-    }
 }
 
 // Gives a sibling to the slot that a link leads to, if there is one.
@@ -33,15 +27,6 @@ fn link(slots: &mut [Slot], last: usize, next: usize)
     }
 }
 
-// Blanks from an index on.
-fn blank_from<T: Copy>(row: &mut [T], from: usize, blank: T)
-    ensures { row.new ≡ blanked_from blank from row.old }
-{
-    for at in from..row.len() {
-        row[at] = blank;
-    }
-}
-
 impl Placer<'_> {
     // Places the root behind the slots used, as far as there is one, and answers the link to it.
     pub fn place(&mut self) -> usize
@@ -49,10 +34,7 @@ impl Placer<'_> {
         ensures value { result ≡ counted self.old.used }
         ensures lays { Lays self.old.root (memory_of self.old) (memory_of self.new) }
     {
-        let at = self.used;
-        let root = self.root;
-        keep(self.slots, at, root);
-        self.used = at.saturating_add(1);
+        self.used = put(self.slots, self.used, self.root);
         self.used
     }
 
@@ -76,9 +58,7 @@ impl Placer<'_> {
         ensures after { Leaves (pushed byte (memory_of self.old)) self.old.root self.old self.new }
         ensures writes { Writes byte (memory_of self.old) (memory_of self.new) }
     {
-        let at = self.written;
-        keep(self.text, at, byte);
-        self.written = at.saturating_add(1);
+        self.written = put(self.text, self.written, byte);
     }
 
     // Whether the memory held all that was placed and written.
@@ -93,10 +73,8 @@ impl Placer<'_> {
         ensures after { Leaves (tidied (memory_of self.old)) self.old.root self.old self.new }
         ensures completes { Completes (memory_of self.old) (memory_of self.new) }
     {
-        let used = self.used;
-        let written = self.written;
-        blank_from(self.slots, used, Slot::blank());
-        blank_from(self.text, written, 0);
+        blank_from(self.slots, self.used, Slot::blank());
+        blank_from(self.text, self.written, 0);
     }
 
     // Forgets what was placed and written, and blanks all the memory.

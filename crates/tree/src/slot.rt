@@ -5,7 +5,7 @@ ghost use Rattle.tree.specs.Reads.{has as has_flag};
 use crate::node::NodeKind;
 use syntax::Span;
 
-// The flags of a slot, which are added up.
+// The flags of a slot, which are added up: the slot format.
 pub const UNSIGNED: u8 = 1;
 
 pub const CASE_INSENSITIVE: u8 = 2;
@@ -18,8 +18,9 @@ pub const OBJECT: u8 = 16;
 
 pub const DECODED: u8 = 32;
 
-// A node of a tree. Links are a slot's number and one, 0 for none; what a node does not use is zero.
-#[derive(Clone, Copy)]
+// A node of a tree. Links are a slot's number and one, 0 for none; what a node does not use is zero: the slot format,
+// in lent memory with no heap.
+#[derive(Clone, Copy, Debug, PartialEq)]
 pub struct Slot {
     pub span: Span,
     pub name: Span,

@@ -1,28 +1,11 @@
-use Rattle.std.proofs.Common.{◌+◌, ◌≤◌, true, false, get_or, drop, Some, None, sym, ap, ◌∙◌, subst, arith}
+use Rattle.std.proofs.Common.{◌≡◌, ℕ, ◌≤◌, List, length, drop, Some, None, sym, ap, ◌∙◌}
+use Rattle.std.specs.Option.{unwrap_or, option_map}
 use Rattle.literal.specs.Digits.{without}
-use Rattle.literal.proofs.Points.{scan, scan_all, scan_skip, scan_push, scan_end, places_more}
+use Rattle.literal.specs.Floats.{decimal_of}
+use Rattle.literal.specs.Numerals.{capped_pair}
+use Rattle.literal.specs.declared.float.Decimal.{Decimal}
+use Rattle.literal.proofs.Points.{decimal, scan, scan_all, scan_push, scan_end}
 use Rattle.literal.proofs.float.read_decimal.Goals as goal
-use Rattle.literal.proofs.float.read_decimal.Goals.{then-b-ne95+in_ok-decimal, else-b-ne95}
-
-pub loop-b-preserved : goal.loop-b-preserved
-loop-b-preserved c =
-    let text = c.args.text.now in
-    let rest = without (drop (c.loop-b.b-index + 1) text) in
-    elim c.if-b-ne95.branch [
-      | then-b-ne95+in_ok-decimal w ↦ (
-        c.loop-b.invariant.0
-            ∙ scan_push c.loop-b.decimal text c.loop-b.b-index (Some w.in_ok-decimal.decimal) c.loop-b-test.true w.if-b-ne95.true w.in_ok-decimal.ensures
-            ∙ ap (λ d. scan d rest) (sym w.decimal-is),
-        (let h = places_more c.loop-b.decimal (get_or text c.loop-b.b-index 0) w.in_ok-decimal.decimal w.in_ok-decimal.ensures in
-            subst (λ d. d.places ≤ c.loop-b.b-index + 1) (sym w.decimal-is) (omega (arith, h, c.loop-b.invariant.1))),
-      )
-      | else-b-ne95 w ↦ (
-        c.loop-b.invariant.0
-            ∙ scan_skip c.loop-b.decimal text c.loop-b.b-index c.loop-b-test.true w.if-b-ne95.false
-            ∙ ap (λ d. scan d rest) (sym w.decimal-is),
-        subst (λ d. d.places ≤ c.loop-b.b-index + 1) (sym w.decimal-is) (omega (arith, c.loop-b.invariant.1)),
-      )
-    ]
 
 pub returns-in_err-decimal : goal.returns-in_err-decimal
 returns-in_err-decimal c =
@@ -30,10 +13,16 @@ returns-in_err-decimal c =
     ∙ sym (scan_all (without c.args.text.now) ∙ c.loop-b.invariant.0
     ∙ scan_push c.loop-b.decimal c.args.text.now c.loop-b.b-index None c.loop-b-test.true c.if-b-ne95.true c.in_err-decimal.ensures)
 
-pub returns-then-decimal : goal.returns-then-decimal
-returns-then-decimal c =
-    sym (scan_all (without c.args.text.now) ∙ c.loop-b.invariant.0 ∙ scan_end c.loop-b.decimal c.args.text.now c.loop-b.b-index true c.loop-b-test.false c.if-decimal.true)
+-- what the loop ends with
+ended : (text : List ℕ) (d : Decimal) (i : ℕ) → length text ≤ i → scan (decimal None None) (without text) ≡ scan d (without (drop i text)) → option_map capped_pair (decimal_of (without text)) ≡ option_map (λ n. (n, unwrap_or d.places 0)) d.digits
+ended text d i h e = scan_all (without text) ∙ e ∙ scan_end d text i h
 
-pub returns-else-decimal : goal.returns-else-decimal
-returns-else-decimal c =
-    sym (scan_all (without c.args.text.now) ∙ c.loop-b.invariant.0 ∙ scan_end c.loop-b.decimal c.args.text.now c.loop-b.b-index false c.loop-b-test.false c.if-decimal.false)
+pub returns-in_err-decimal-2 : goal.returns-in_err-decimal-2
+returns-in_err-decimal-2 c =
+    let h = ended c.args.text.now c.loop-b.decimal c.loop-b.b-index c.loop-b-test.false c.loop-b.invariant.0 in
+    c.from_residual-in_err-decimal-2.ensures ∙ sym (h ∙ ap (option_map (λ n. (n, unwrap_or c.loop-b.decimal.places 0))) c.in_err-decimal-2.was)
+
+pub returns : goal.returns
+returns c =
+    let h = ended c.args.text.now c.loop-b.decimal c.loop-b.b-index c.loop-b-test.false c.loop-b.invariant.0 in
+    ap (λ k. Some (c.in_ok-decimal-2.field-0, k)) c.unwrap_or.ensures ∙ sym (h ∙ ap (option_map (λ n. (n, unwrap_or c.loop-b.decimal.places 0))) c.in_ok-decimal-2.was)

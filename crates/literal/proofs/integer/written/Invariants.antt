@@ -1,7 +1,7 @@
-use Rattle.std.proofs.Common.{◌≡◌, false, drop}
+use Rattle.std.proofs.Common.{◌≡◌, drop, None}
 use Rattle.literal.specs.Digits.{without}
 use Rattle.literal.proofs.Sums.{reading}
 use Rattle.literal.proofs.integer.written.Given as goal
 
 abbrev pub invariant-loop-b : goal.invariant-loop-b
-invariant-loop-b l = reading l.radix false 0 (without l.text) ≡ reading l.radix l.some l.sum (without (drop l.b-index l.text))
+invariant-loop-b l = reading l.radix None (without l.text) ≡ reading l.radix l.number (without (drop l.b-index l.text))

@@ -1,33 +1,32 @@
-use Rattle.std.proofs.Common.{◌≡◌, ◌-◌, length, ap, ◌∙◌, arith}
-use Rattle.literal.proofs.Escaping.{went, emitted, put_in, put_past, bad_at, cut_at, whole, renamed}
+use Rattle.std.proofs.Common.{◌≡◌, ◌-◌, ◌^◌, ◌<◌, length, get_or, Some, sym, ap, ◌∙◌, subst, arith}
+use Rattle.literal.specs.declared.unescape.Step.TheVariants.{Emit, Go}
+use Rattle.literal.specs.Machine.{step_of, Small, SmallStep}
+use Rattle.literal.proofs.Escaping.{within, went, emitted, bad_at, cut_at, whole}
 use Rattle.literal.proofs.unescape.unescape.Goals as goal
-use Rattle.literal.proofs.unescape.unescape.Goals.{in-Go, in-Emit, then-n-room, else-n-room}
+use Rattle.literal.proofs.unescape.unescape.Goals.{in-Go, in-Emit}
 
 pub loop-i-preserved : goal.loop-i-preserved
-loop-i-preserved c =
-    let p = c.loop-i.invariant in
-    elim c.match-step.branch [
-      | in-Go w ↦ renamed (went _ _ _ c.loop-i.state _ _ _ c.loop-i.i c.loop-i-test.true p w.in-Go.ensures.value w.in-Go.ensures.small) w.state-is w.n-is w.out-is
-      | in-Emit w ↦ renamed (emitted _ _ _ c.loop-i.state _ _ c.loop-i.out w.if-n-room.out c.loop-i.i c.loop-i-test.true p w.in-Emit.ensures.value
-          (elim w.if-n-room.branch [
-            | then-n-room v ↦ v.out-is ∙ put_in _ c.loop-i.out _ _ p.ds _ p.count p.memory
-            | else-n-room v ↦ v.out-is ∙ put_past _ c.loop-i.out c.args.from c.loop-i.n p.ds _ p.count p.memory (omega (arith, v.if-n-room.false, c.saturating_sub-room.ensures, c.loop-i.auto.out))
-          ]))
-          w.state-is w.n-is w.out-is
-    ]
+loop-i-preserved c = elim c.match-step-2.branch [
+  | in-Go w ↦ let e : Some (Go w.in-Go.next) ≡ step_of c.loop-i.state (get_or c.args.text.now c.loop-i.i 0) = ap Some (sym w.in-Go.is) ∙ c.in-Some.ensures.value in
+      let z : Small w.in-Go.next = subst SmallStep w.in-Go.is c.in-Some.ensures.small in
+      rw (w.state-is, w.n-is, w.out-is) (went _ _ _ _ w.in-Go.next _ _ _ c.loop-i.i c.loop-i-test.true c.loop-i.invariant.0 e z, c.loop-i.invariant.1)
+  | in-Emit w ↦ let e : Some (Emit w.in-Emit.byte) ≡ step_of c.loop-i.state (get_or c.args.text.now c.loop-i.i 0) = ap Some (sym w.in-Emit.is) ∙ c.in-Some.ensures.value in
+      let l : length c.loop-i.out.items.now < 2 ^ 64 = within c.loop-i.invariant.0 (omega (arith, c.if-prove.false)) in
+      rw (w.state-is, w.n-is, w.out-is) (emitted _ _ _ _ _ _ _ _ _ _ c.loop-i.i c.loop-i-test.true c.loop-i.invariant.0 e l w.push.ensures.items w.push.ensures.used, w.push.ensures.same ∙ c.loop-i.invariant.1)
+]
 
-pub returns-in-Bad : goal.returns-in-Bad
-returns-in-Bad c =
-    let e = bad_at c.args.text.now c.args.out.now c.args.from c.loop-i.n c.loop-i.out c.loop-i.state c.loop-i.i (c.loop-i.i - c.held.result) c.loop-i-test.true c.loop-i.invariant (ap (λ k. c.loop-i.i - k) c.held.ensures) c.in-Bad.ensures.value in
-    record { value = e.value; after = e.memory }
-
-pub returns-in-Plain : goal.returns-in-Plain
-returns-in-Plain c =
-    let e = whole c.args.text.now c.args.out.now c.args.from c.loop-i.n c.loop-i.out c.loop-i.state c.loop-i.i c.loop-i-test.false c.loop-i.invariant c.in-Plain.is in
-    record { value = e.value; after = e.memory }
+pub returns-in_default-state : goal.returns-in_default-state
+returns-in_default-state c =
+    let l : length c.args.text.now ≡ c.loop-i.i = omega arith in
+    let e = cut_at _ _ _ _ _ _ c.loop-i.state c.loop-i.i (length c.args.text.now - c.held-in_default-state.result) l c.loop-i.invariant.0 (omega (arith, l, c.held-in_default-state.ensures)) c.in_default-state.not-Plain in
+    record { value = e.value; items = e.memory; used = e.counts; same = c.loop-i.invariant.1 }
 
 pub returns-in_default : goal.returns-in_default
 returns-in_default c =
-    let l : length c.args.text.now ≡ c.loop-i.i = omega arith in
-    let e = cut_at c.args.text.now c.args.out.now c.args.from c.loop-i.n c.loop-i.out c.loop-i.state c.loop-i.i (length c.args.text.now - c.held-in_default.result) l c.loop-i.invariant (omega (arith, l, c.held-in_default.ensures)) c.in_default.not-Plain in
-    record { value = e.value; after = e.memory }
+    let e = bad_at _ _ _ _ _ _ c.loop-i.state c.loop-i.i (c.loop-i.i - c.held.result) c.loop-i-test.true c.loop-i.invariant.0 (ap (λ k. c.loop-i.i - k) c.held.ensures) (sym c.in_default.is ∙ c.step.ensures.value) in
+    record { value = e.value; items = e.memory; used = e.counts; same = c.loop-i.invariant.1 }
+
+pub returns-in-Plain : goal.returns-in-Plain
+returns-in-Plain c =
+    let e = whole _ _ _ _ _ _ c.loop-i.state c.loop-i.i c.loop-i-test.false c.loop-i.invariant.0 c.in-Plain.is in
+    record { value = e.value; items = e.memory; used = e.counts; same = c.loop-i.invariant.1 }

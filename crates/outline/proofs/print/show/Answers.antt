@@ -1,18 +1,14 @@
-use Rattle.std.proofs.Common.{◌≡◌, string_bytes, rules}
-use Rattle.outline.specs.declared.print.View.{View}
+use Rattle.std.proofs.Common.{◌≡◌, string_bytes}
+use Rattle.std.proofs.lemmas.Result.{IfOk-weaker}
+use Rattle.outline.specs.declared.print.Shown.{Shown}
 use Rattle.outline.specs.Shown.{show_text}
+use Rattle.outline.specs.Whole.{Whole}
 use Rattle.outline.proofs.Wholly.{whole_from}
 use Rattle.outline.proofs.print.show.Goals as goal
 
-pub returns : goal.returns
-returns c =
-    let v : View =
-    record {
-      form = c.args.form;
-      slots = c.args.slots;
-      source = c.args.source;
-      text = c.args.text;
-      heap = c.args.heap;
-    } in
-    let e : string_bytes c.put_tree.new.out ≡ show_text v c.args.number = search rules in
-    record { made = e; whole = whole_from v c.args.number (string_bytes c.put_tree.new.out) e }
+pub returns-clause-whole : goal.returns-clause-whole
+returns-clause-whole c =
+    let v : Shown = record { form = c.args.form; tree = c.args.tree; number = c.args.number } in
+    IfOk-weaker c.to_string.result (λ s. string_bytes s ≡ show_text v) (λ s. Whole v (string_bytes s))
+    (λ s. whole_from v (string_bytes s))
+    c.to_string.ensures.ok

@@ -1,17 +1,15 @@
-use Rattle.std.proofs.Common.{sym}
-use Rattle.refusal.specs.declared.refusal.Refusal.TheVariants.{Damaged, BadSpan, OutOfPlace}
-use Rattle.reader.specs.Contract.{Untaken}
-use Rattle.reader.proofs.Takes.{finished}
+use Rattle.refusal.specs.declared.refusal.Refusal.TheVariants.{OutOfPlace}
+use Rattle.reader.specs.Contract.{state_of, Finished, Untaken}
+use Rattle.reader.proofs.Takes.{finished, sound, unsound, at_place, handed_on}
 use Rattle.reader.proofs.reader.Reader.finish.Goals as goal
 
-pub returns-then-is_damaged : goal.returns-then-is_damaged
-returns-then-is_damaged c =
-    finished Damaged c.args.self.now c.peek.new.self c.in-Some.event _ _ c.span-span.ensures c.peek.ensures.kept c.peek.ensures.same c.peek.ensures.stops c.in-Some.ensures.shown.front (Untaken.damaged (sym c.if-is_damaged.ensures))
+pub returns-in_err-judge : goal.returns-in_err-judge
+returns-in_err-judge c =
+    handed_on (λ r. Finished {Y = Unit {0}} c.args.self.now c.peek.new.self r) _
+    (finished _ _ _ _ c.in-Some.ensures (unsound (λ _. ⊥) (state_of c.peek.new.self) c.in-Some.event _ _ c.in_err-judge.ensures))
+    c.from_residual.result c.from_residual.ensures.1
 
-pub returns-then-is_misplaced : goal.returns-then-is_misplaced
-returns-then-is_misplaced c =
-    finished BadSpan c.args.self.now c.peek.new.self c.in-Some.event _ _ c.span-span.ensures c.peek.ensures.kept c.peek.ensures.same c.peek.ensures.stops c.in-Some.ensures.shown.front (Untaken.bad_span (sym c.if-is_damaged.ensures) (sym c.if-is_misplaced.ensures))
-
-pub returns-else-is_misplaced : goal.returns-else-is_misplaced
-returns-else-is_misplaced c =
-    finished OutOfPlace c.args.self.now c.peek.new.self c.in-Some.event _ _ c.span-span.ensures c.peek.ensures.kept c.peek.ensures.same c.peek.ensures.stops c.in-Some.ensures.shown.front (Untaken.out_of_place (sym c.if-is_damaged.ensures) (sym c.if-is_misplaced.ensures) (λ x. x))
+pub returns : goal.returns
+returns c =
+    let s = sound (state_of c.peek.new.self) c.in-Some.event _ c.in_ok-judge.ensures in
+    finished _ _ _ _ c.in-Some.ensures (at_place OutOfPlace c.in-Some.event c.span.ensures (Untaken.out_of_place s.0 s.1 (λ x. x)))

@@ -1,29 +1,21 @@
-use Rattle.std.proofs.Common.{◌∙◌}
-use Rattle.reader.proofs.Readers.{skipped, shown}
-use Rattle.reader.proofs.Rows.{seen_errors, end_rest, end_errors}
+use Rattle.std.proofs.Common.{◌+◌, drop, refl, ap, ◌∙◌, arith, length-drop}
+use Rattle.std.proofs.slice.Searches.{copied_from_item}
+use Rattle.std.proofs.lemmas.List.Sums.{prefix_len-le-length}
+use Rattle.reader.specs.States.{is_error}
+use Rattle.reader.proofs.Readers.{peeked, last_kept, opens_kept}
 use Rattle.reader.proofs.reader.Reader.peek.Goals as goal
 
-pub loop-self-preserved : goal.loop-self-preserved
-loop-self-preserved c = (
-  record { row = c.loop-self.invariant.0.row; source = c.loop-self.invariant.0.source },
-  skipped c.loop-self.self _ c.loop-self-test.true c.in-Error.message c.in-Error.span c.in-Error.is
-      ∙ c.loop-self.invariant.1,
-)
-
-pub returns-in_default : goal.returns-in_default
-returns-in_default c =
-    record {
-      kept = c.loop-self.invariant.0;
-      same = c.loop-self.invariant.1;
-      shown = shown c.loop-self.self _ c.loop-self-test.true c.in_default.not-Error;
-      stops = seen_errors c.loop-self.self.row.now c.loop-self.self.at _ c.loop-self-test.true c.in_default.not-Error;
-    }
+pub overflow_add-self : goal.overflow_add-self
+overflow_add-self c =
+    let p = c.args.self.now in
+    omega (arith, c.errors_ahead.ensures, prefix_len-le-length is_error (drop p.at p.row.now), length-drop p.at p.row.now)
 
 pub returns : goal.returns
 returns c =
-    record {
-      kept = c.loop-self.invariant.0;
-      same = c.loop-self.invariant.1;
-      shown = end_rest c.loop-self.self.row.now c.loop-self.self.at c.loop-self-test.false;
-      stops = end_errors c.loop-self.self.row.now c.loop-self.self.at c.loop-self-test.false;
-    }
+    let p = c.args.self.now in
+    peeked p _ _ (record { row = refl; source = refl }) (ap (λ n. p.at + n) c.errors_ahead.ensures)
+    (c.copied.ensures ∙ copied_from_item _ _ _ _ (λ h. h) (λ h. h) c.get.ensures.lookup)
+
+pub invariant_of-self : goal.invariant_of-self
+invariant_of-self c =
+    record { last_is = last_kept c.args.self.now _ c.errors_ahead.ensures; opens_is = opens_kept c.args.self.now _ c.errors_ahead.ensures }

@@ -1,0 +1,5 @@
+use Rattle.std.proofs.Common.{length}
+use Rattle.source_speed.proofs.drain.Given as goal
+
+abbrev pub decreases-loop-event : goal.decreases-loop-event
+decreases-loop-event g l = length (g.S.EventSource.events l.source)
