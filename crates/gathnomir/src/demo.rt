@@ -32,33 +32,24 @@ fn named(kind: NodeKind, start: u32, end: u32) -> Slot
     }
 }
 
-// Puts the root below a new node.
-fn raise(placer: &mut Placer, parent: Slot) {
-    let last = placer.used;
-    placer.adopt(parent, last);
-}
-
 // b - c
 fn inner(placer: &mut Placer)
     ensures { placer.old.used + 3 < 2 ^ 64 → Pending inner_tree (memory_of placer.old) placer.new.root (memory_of placer.new) }
 {
     placer.root = named(NodeKind::Ident, 5, 6);
-    let none = placer.used;
-    placer.adopt(node(NodeKind::Sub, 5, 10), none);
-    let left = placer.root;
-    let last = placer.used;
+    placer.raise(node(NodeKind::Sub, 5, 10));
+    let left = placer.put_aside();
     placer.root = named(NodeKind::Ident, 9, 10);
-    placer.adopt(left, last);
+    placer.adopt(left);
 }
 
 // a - (b - c)
 fn difference(placer: &mut Placer) {
     placer.root = named(NodeKind::Ident, 0, 1);
-    raise(placer, node(NodeKind::Sub, 0, 10));
-    let left = placer.root;
-    let last = placer.used;
+    placer.raise(node(NodeKind::Sub, 0, 10));
+    let left = placer.put_aside();
     inner(placer);
-    placer.adopt(left, last);
+    placer.adopt(left);
 }
 
 // "x\n" contains $p
@@ -70,20 +61,18 @@ fn search(placer: &mut Placer) {
         flags: DECODED,
         ..node(NodeKind::LiteralString, 15, 20)
     };
-    raise(placer, node(NodeKind::Contains, 15, 32));
-    let left = placer.root;
-    let last = placer.used;
+    placer.raise(node(NodeKind::Contains, 15, 32));
+    let left = placer.put_aside();
     placer.root = named(NodeKind::PatternMatch, 30, 32);
-    placer.adopt(left, last);
+    placer.adopt(left);
 }
 
 fn condition(placer: &mut Placer) {
     difference(placer);
-    raise(placer, node(NodeKind::Or, 0, 32));
-    let left = placer.root;
-    let last = placer.used;
+    placer.raise(node(NodeKind::Or, 0, 32));
+    let left = placer.put_aside();
     search(placer);
-    placer.adopt(left, last);
+    placer.adopt(left);
     let _root = placer.place();
     placer.tidy();
 }

@@ -27,13 +27,10 @@ pub enum Failure {
 
 impl Failure {
     // A failed deed on a file; the lack of memory where the path cannot be kept.
-    pub fn file(
-        heap: Global,
-        deed: &'static str,
-        path: &str,
-        error: io::Error,
-    ) -> Result<Failure, Failure> {
-        let path = String::from_str(heap, path)?;
-        Ok(Failure::File { deed, path, error })
+    pub fn file(heap: Global, deed: &'static str, path: &str, error: io::Error) -> Failure {
+        match String::from_str(heap, path) {
+            Ok(path) => Failure::File { deed, path, error },
+            Err(lack) => Failure::Memory(lack),
+        }
     }
 }

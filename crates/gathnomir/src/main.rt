@@ -60,11 +60,11 @@ fn run(rt: &HostRuntime) -> Result<(), Failure> {
 }
 
 fn read(rt: &HostRuntime, path: &str) -> Result<Vec<u8>, Failure> {
-    fs::read(rt, path).try_map_err(|error| Failure::file(rt.alloc(), "read", path, error))
+    fs::read(rt, path).map_err(|error| Failure::file(rt.alloc(), "read", path, error))
 }
 
 fn write(rt: &HostRuntime, path: &str, bytes: &[u8]) -> Result<(), Failure> {
-    fs::write(rt, path, bytes).try_map_err(|error| Failure::file(rt.alloc(), "write", path, error))
+    fs::write(rt, path, bytes).map_err(|error| Failure::file(rt.alloc(), "write", path, error))
 }
 
 fn print_events(rt: &HostRuntime, source: &str, events: &str) -> Result<(), Failure> {

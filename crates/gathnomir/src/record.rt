@@ -4,6 +4,7 @@ use source::{EventSource, Packed};
 use std::alloc::Global;
 use std::io;
 use std::io::Write;
+use std::num::Saturating;
 use syntax::{Event, Span, SyntaxKind};
 
 // Prints each packed event, how they close, and totals.
@@ -12,7 +13,7 @@ pub fn print<W: Write + Drop>(heap: Global, out: W, source: &[u8], bytes: &[u8])
     let mut record = Record {
         out,
         source,
-        text: vec![in heap; 0; source.len()]?,
+        text: Vec::new(heap),
         open: Vec::new(heap),
         totals: Totals::default(),
     };
@@ -36,7 +37,7 @@ pub fn print<W: Write + Drop>(heap: Global, out: W, source: &[u8], bytes: &[u8])
 struct Record<'a, W> {
     out: W,
     source: &'a [u8],
-    // Room for what a string stands for.
+    // Room for what a string stands for, as long as its token.
     text: Vec<u8>,
     // The nodes that are open, the innermost last.
     open: Vec<SyntaxKind>,
@@ -45,30 +46,23 @@ struct Record<'a, W> {
 
 #[derive(Clone, Copy, Default)]
 struct Totals {
-    begins: usize,
-    ends: usize,
-    tokens: usize,
-    errors: usize,
-    trivia: usize,
+    begins: Saturating<usize>,
+    ends: Saturating<usize>,
+    tokens: Saturating<usize>,
+    errors: Saturating<usize>,
+    trivia: Saturating<usize>,
     reach: usize,
-    gaps: usize,
-    conditions: usize,
+    gaps: Saturating<usize>,
+    conditions: Saturating<usize>,
     deepest: usize,
-    reversed: usize,
-    outside: usize,
+    reversed: Saturating<usize>,
+    outside: Saturating<usize>,
 }
 
 impl Totals {
-    fn events(&self) -> usize {
-        let nodes = self.begins.saturating_add(self.ends);
-        nodes
-            .saturating_add(self.tokens)
-            .saturating_add(self.errors)
+    fn events(&self) -> Saturating<usize> {
+        self.begins + self.ends + self.tokens + self.errors
     }
-}
-
-fn more(count: &mut usize) {
-    *count = count.saturating_add(1);
 }
 
 impl<W: Write + Drop> Record<'_, W> {
@@ -84,12 +78,12 @@ impl<W: Write + Drop> Record<'_, W> {
     }
 
     fn begin(&mut self, kind: SyntaxKind, span: Span) -> io::Result<()> {
-        more(&mut self.totals.begins);
+        self.totals.begins += 1;
         self.indent()?;
         let (range, note) = (span.range(), self.note(span));
         writeln!(self.out, "begin {kind} {range:?}{note}")?;
         if kind == SyntaxKind::BOOLEAN_EXPR && !self.open.contains(&kind) {
-            more(&mut self.totals.conditions);
+            self.totals.conditions += 1;
         }
         self.open.push(kind)?;
         self.totals.deepest = self.totals.deepest.max(self.open.len());
@@ -97,7 +91,7 @@ impl<W: Write + Drop> Record<'_, W> {
     }
 
     fn end(&mut self, kind: SyntaxKind, span: Span) -> io::Result<()> {
-        more(&mut self.totals.ends);
+        self.totals.ends += 1;
         let closes = self.open.pop();
         self.indent()?;
         let (range, note) = (span.range(), self.note(span));
@@ -110,7 +104,7 @@ impl<W: Write + Drop> Record<'_, W> {
     }
 
     fn token(&mut self, kind: SyntaxKind, span: Span, trivia: bool) -> io::Result<()> {
-        more(&mut self.totals.tokens);
+        self.totals.tokens += 1;
         self.indent()?;
         write!(self.out, "token {kind} {:?}", span.range())?;
         if let Some(text) = self.source.get(span.range()) {
@@ -119,7 +113,7 @@ impl<W: Write + Drop> Record<'_, W> {
             self.cover(span);
         }
         if trivia {
-            more(&mut self.totals.trivia);
+            self.totals.trivia += 1;
             self.out.write_all(b" trivia")?;
         }
         let note = self.note(span);
@@ -128,6 +122,9 @@ impl<W: Write + Drop> Record<'_, W> {
 
     // Prints what a name or a literal stands for, or why it is refused.
     fn value(&mut self, kind: SyntaxKind, span: Span) -> io::Result<()> {
+        if kind == SyntaxKind::STRING_LIT {
+            self.text.resize(span.len(), 0)?;
+        }
         match Value::of(kind, self.source, span, self.text.as_mut_slice()) {
             Ok(None) => Ok(()),
             Ok(Some(value)) => write!(self.out, " = {value}"),
@@ -139,7 +136,7 @@ impl<W: Write + Drop> Record<'_, W> {
     }
 
     fn error(&mut self, message: u16, span: Span) -> io::Result<()> {
-        more(&mut self.totals.errors);
+        self.totals.errors += 1;
         self.indent()?;
         let (range, note) = (span.range(), self.note(span));
         writeln!(self.out, "error {message} {range:?}{note}")
@@ -155,10 +152,10 @@ impl<W: Write + Drop> Record<'_, W> {
     // Counts a span that does not lie within the source, and says so.
     fn note(&mut self, span: Span) -> &'static str {
         if span.end < span.start {
-            more(&mut self.totals.reversed);
+            self.totals.reversed += 1;
             " (reversed)"
         } else if span.end() > self.source.len() {
-            more(&mut self.totals.outside);
+            self.totals.outside += 1;
             " (outside the source)"
         } else {
             ""
@@ -168,7 +165,7 @@ impl<W: Write + Drop> Record<'_, W> {
     // Counts the bytes between the tokens before and this one.
     fn cover(&mut self, span: Span) {
         let gap = span.start().saturating_sub(self.totals.reach);
-        self.totals.gaps = self.totals.gaps.saturating_add(gap);
+        self.totals.gaps += gap;
         self.totals.reach = self.totals.reach.max(span.end());
     }
 
@@ -187,9 +184,9 @@ impl<W: Write + Drop> Record<'_, W> {
             outside,
         } = self.totals;
         let events = self.totals.events();
-        let other = tokens.saturating_sub(trivia);
+        let other = tokens - trivia;
         let length = self.source.len();
-        let gaps = gaps.saturating_add(length.saturating_sub(reach));
+        let gaps = gaps + Saturating(length.saturating_sub(reach));
         let open = self.open.len();
         writeln!(
             self.out,

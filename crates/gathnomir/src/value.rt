@@ -8,7 +8,7 @@ use refusal::Refusal;
 use std::fmt;
 use syntax::{Span, SyntaxKind};
 
-// What a name or a literal stands for.
+// What a name or a literal stands for, in the program's words; the table of literals has others, and an enum of its own.
 #[derive(Clone, Copy)]
 pub enum Value<'a> {
     Name,

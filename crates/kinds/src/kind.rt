@@ -1,6 +1,6 @@
 ghost use Rattle.std.specs.Prelude.{◌≡◌, ◌<◌, ◌≤◌, Some, MatchOption, codes};
 ghost use Rattle.std.specs.Result.{result_ok};
-ghost use Rattle.kinds.specs.Kinds.{number_of, kind_of};
+ghost use Rattle.kinds.specs.Kinds.{number_of, kind_of, same};
 ghost use Rattle.kinds.specs.Names.{name_of, kind_named};
 ghost use Rattle.kinds.specs.declared.kind.SyntaxKind.{SyntaxKind};
 
@@ -292,6 +292,7 @@ impl SyntaxKind {
     pub fn number(self) -> u16
         ensures value { result ≡ number_of self }
         ensures bound { result < 127 }
+        ensures same { (k : SyntaxKind) → ⟦<SyntaxKind as PartialEq>⟧.eq self k ≡ same self k }
     {
         self as u16
     }
@@ -303,7 +304,10 @@ impl SyntaxKind {
         ensures back { MatchOption result (127 ≤ number) (λ k. number ≡ number_of k) }
     {
         // As a slice, since the proof needs a name for the rows.
-        KINDS.as_slice().get(number as usize).map(|(kind, _)| *kind)
+        KINDS
+            .as_slice()
+            .get(usize::from(number))
+            .map(|(kind, _)| *kind)
     }
 
     pub fn name(self) -> &'static str

@@ -8,7 +8,7 @@ pub struct Lent<'m, T> {
     pub used: usize,
 }
 
-// Blanks each place.
+// Blanks each place. Not `fill`: that clones, and asks generic callers that a clone cannot fail.
 fn blank_all<T: Copy>(items: &mut [T], blank: T)
     ensures { items.new ≡ replicate (length items.old) blank }
 {

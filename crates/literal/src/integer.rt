@@ -1,7 +1,7 @@
 ghost use Rattle.std.specs.Prelude.{◌≡◌, ℕ, ◌-◌, ◌^◌, ◌<◌, ◌≤◌, length, pos};
 ghost use Rattle.std.specs.Option.{option_map};
 ghost use Rattle.literal.specs.Digits.{written as written_in, without, up_to};
-ghost use Rattle.literal.specs.Integers.{before, factor, behind, plain_number, integer_number, pattern as pattern_of, as_integer, integer_of, negated};
+ghost use Rattle.literal.specs.Integers.{before, factor, behind, plain_number, integer_number, as_integer, integer_of, negated};
 ghost use Rattle.literal.specs.Numerals.{pushed};
 
 use crate::number::Number;
@@ -31,25 +31,30 @@ pub fn strip_size_suffix(literal: &str) -> (&str, u64)
     }
 }
 
+// The base of an integer literal. No enum: its number would be found anew at each digit, which takes a tenth longer.
+#[derive(Clone, Copy)]
+struct Base {
+    radix: u32,
+    ghost bound: { (2 ≤ radix) × (radix ≤ 36) },
+}
+
 // A number with one more digit behind it, if the byte is one and 64 bits hold the result.
-fn push_digit(sum: u64, radix: u32, byte: u8) -> Option<u64>
-    requires { (2 ≤ radix) × (radix ≤ 36) }
-    ensures { result ≡ pushed radix sum byte }
+fn push_digit(sum: u64, base: Base, byte: u8) -> Option<u64>
+    ensures { result ≡ pushed base.radix sum byte }
 {
-    let digit = char::from(byte).to_digit(radix)?;
-    sum.checked_mul(u64::from(radix))?
+    let digit = char::from(byte).to_digit(base.radix)?;
+    sum.checked_mul(u64::from(base.radix))?
         .checked_add(u64::from(digit))
 }
 
 // The number that digits write, underscores passed over, if 64 bits hold it.
-fn written(text: &[u8], radix: u32) -> Option<u64>
-    requires { (2 ≤ radix) × (radix ≤ 36) }
-    ensures { result ≡ up_to (2 ^ 64 - 1) (written_in radix (without text.now)) }
+fn written(text: &[u8], base: Base) -> Option<u64>
+    ensures { result ≡ up_to (2 ^ 64 - 1) (written_in base.radix (without text.now)) }
 {
     let mut number = None;
     for b in text {
         if *b != b'_' {
-            number = Some(push_digit(number.unwrap_or(0), radix, *b)?);
+            number = Some(push_digit(number.unwrap_or(0), base, *b)?);
         }
     }
     number
@@ -64,16 +69,15 @@ fn behind_hex(text: &str) -> Option<&str>
 }
 
 // The digits of a text without a suffix, and their base.
-fn split_base(text: &str) -> (&str, u32)
-    ensures value { plain_number text.now ≡ written_in result.1 (without result.0.now) }
-    ensures bound { (2 ≤ result.1) × (result.1 ≤ 36) }
+fn split_base(text: &str) -> (&str, Base)
+    ensures { plain_number text.now ≡ written_in result.1.radix (without result.0.now) }
 {
     if let Some(digits) = behind_hex(text) {
-        (digits, 16)
+        (digits, Base { radix: 16 })
     } else if let Some(digits) = text.strip_prefix("0o") {
-        (digits, 8)
+        (digits, Base { radix: 8 })
     } else {
-        (text, 10)
+        (text, Base { radix: 10 })
     }
 }
 
@@ -82,8 +86,8 @@ fn integer_number(literal: &str) -> Option<u64>
     ensures { result ≡ up_to (2 ^ 64 - 1) (integer_number literal.now) }
 {
     let (text, factor) = strip_size_suffix(literal);
-    let (digits, radix) = split_base(text);
-    written(digits.as_bytes(), radix)?.checked_mul(factor)
+    let (digits, base) = split_base(text);
+    written(digits.as_bytes(), base)?.checked_mul(factor)
 }
 
 // The number that a literal writes, as a number of the kind asked for, if it is at most the kind's largest.
@@ -91,13 +95,6 @@ pub fn parse_integer<N: Number>(literal: &str) -> Option<N>
     ensures { option_map N.Number.value result ≡ option_map pos (up_to N.Number.TOP (integer_number literal.now)) }
 {
     N::from_u64(integer_number(literal)?)
-}
-
-// 64 bits read as a signed number.
-fn pattern(bits: u64) -> i64
-    ensures { result ≡ pattern_of bits }
-{
-    bits.cast_signed()
 }
 
 impl Token<'_> {
@@ -116,7 +113,7 @@ impl Token<'_> {
             return Err(Refusal::InvalidInteger(self.span));
         };
         Ok(Integer {
-            value: pattern(bits),
+            value: bits.cast_signed(),
             unsigned: true,
             name,
         })

@@ -36,7 +36,7 @@ impl Number for i64 {
     ghost small = { Prim.search rules };
 
     fn from_small(n: u64) -> i64 {
-        n as i64
+        n.cast_signed()
     }
 }
 

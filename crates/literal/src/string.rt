@@ -1,7 +1,6 @@
 ghost use Rattle.std.specs.Prelude.{◌≡◌, ℕ, ◌+◌, ◌<◌, List, length, drop, slice_index};
 ghost use Rattle.std.specs.Option.{option_map};
-ghost use Rattle.lent.specs.Lists.{overlay};
-ghost use Rattle.literal.specs.Memory.{counted_all};
+ghost use Rattle.literal.specs.Memory.{Puts};
 ghost use Rattle.literal.specs.Strings.{inner, escape_place, as_string, string_of, decoded_in, decoded_bytes};
 ghost use Rattle.literal.specs.Texts.{place_in};
 
@@ -44,9 +43,7 @@ impl<'a> Token<'a> {
 
     fn as_string(&self, text: &mut Lent<u8>) -> Result<StringValue, Refusal>
         ensures value { result ≡ as_string self.now.text.now self.now.span text.old.used }
-        ensures items { text.new.items.now ≡ overlay text.old.items.now text.old.used (decoded_in self.now.text.now) }
-        ensures used { text.new.used ≡ counted_all text.old.used (decoded_in self.now.text.now) }
-        ensures same { text.new.items.ghost_name ≡ text.old.items.ghost_name }
+        ensures memory { Puts (decoded_in self.now.text.now) text.old text.new }
     {
         let Some(inner) = self.unquoted() else {
             return Err(Refusal::BadToken(self.span));
@@ -71,9 +68,7 @@ impl<'a> Token<'a> {
 // With a backslash, what it stands for is put behind what is used of `text`, as far as it fits and up to a bad escape.
 pub fn string_lit(source: &[u8], span: Span, text: &mut Lent<u8>) -> Result<StringValue, Refusal>
     ensures value { result ≡ string_of source.now span text.old.used }
-    ensures items { text.new.items.now ≡ overlay text.old.items.now text.old.used (decoded_bytes source.now span) }
-    ensures used { text.new.used ≡ counted_all text.old.used (decoded_bytes source.now span) }
-    ensures same { text.new.items.ghost_name ≡ text.old.items.ghost_name }
+    ensures memory { Puts (decoded_bytes source.now span) text.old text.new }
 {
     Token::of(source, span)?.as_string(text)
 }

@@ -8,6 +8,7 @@ use std::str::from_utf8;
 use syntax::Span;
 
 // The bytes of the source that a span covers: all of them where it lies inside the source.
+// Two parameters and no struct: the source stays the same for a whole condition, the span changes with each call.
 pub fn get_source(source: &[u8], span: Span) -> &[u8]
     ensures { result.now ≡ part_of source.now span }
 {

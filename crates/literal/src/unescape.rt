@@ -1,8 +1,7 @@
 ghost use Rattle.std.specs.Prelude.{◌≡◌, ◌<◌, IfSome};
-ghost use Rattle.lent.specs.Lists.{overlay};
 ghost use Rattle.literal.specs.Escapes.{hex_of, reading};
 ghost use Rattle.literal.specs.Machine.{step_of, held_by, Small, SmallStep, count_of};
-ghost use Rattle.literal.specs.Memory.{counted_all};
+ghost use Rattle.literal.specs.Memory.{Puts};
 
 use lent::Lent;
 
@@ -69,9 +68,7 @@ impl State {
 // Answers how many bytes it stands for, or where the bad escape begins.
 pub(crate) fn unescape(text: &[u8], out: &mut Lent<u8>) -> Result<usize, usize>
     ensures value { result ≡ count_of text.now }
-    ensures items { out.new.items.now ≡ overlay out.old.items.now out.old.used (reading text.now).bytes }
-    ensures used { out.new.used ≡ counted_all out.old.used (reading text.now).bytes }
-    ensures same { out.new.items.ghost_name ≡ out.old.items.ghost_name }
+    ensures memory { Puts (reading text.now).bytes out.old out.new }
 {
     // Memory is no longer than its counter can count.
     prove!(out.items.len() <= usize::MAX);
@@ -85,6 +82,7 @@ pub(crate) fn unescape(text: &[u8], out: &mut Lent<u8>) -> Result<usize, usize>
             Step::Go(next) => next,
             Step::Emit(byte) => {
                 out.push(byte);
+                // Not told by `out.used`, which stops at its largest value.
                 n += 1;
                 State::Plain
             }

@@ -1,4 +1,4 @@
-ghost use Rattle.std.specs.Prelude.{◌<◌};
+ghost use Rattle.std.specs.Prelude.{◌<◌, IfSome};
 
 use lent::Lent;
 use literal::{
@@ -31,6 +31,7 @@ impl From<&str> for Kind {
             "n" => Kind::Name,
             "f" => Kind::Float,
             "s" => Kind::String,
+            // `r`, and any letter that the table does not have.
             _ => Kind::Regexp,
         }
     }
@@ -93,23 +94,25 @@ impl fmt::Display for Hex<'_> {
     }
 }
 
-// The value of a small hexadecimal digit, 0 for any other byte.
-fn digit(byte: u8) -> u8
-    ensures { result < 16 }
+// The value of a small hexadecimal digit. Not `to_digit`: it takes capitals too.
+fn digit(byte: u8) -> Option<u8>
+    ensures { IfSome result (λ d. d < 16) }
 {
-    if byte.is_ascii_uppercase() {
-        return 0;
+    match byte {
+        b'0'..=b'9' => Some(byte - b'0'),
+        b'a'..=b'f' => Some(byte - b'a' + 10),
+        _ => None,
     }
-    char::from(byte).to_digit(16).unwrap_or(0) as u8
 }
 
-// Some blanks, and the bytes that a token's hexadecimal digits write.
+// Some blanks, and the bytes that a token's hexadecimal digits write; what is no digit counts as 0.
 fn source(heap: Global, blanks: usize, token: &str) -> Result<Vec<u8>, AllocError> {
     let mut bytes = vec![in heap; b' '; blanks]?;
     if token != "-" {
         let (pairs, _) = token.as_bytes().as_chunks::<2>();
         for [high, low] in pairs {
-            bytes.push(digit(*high) * 16 + digit(*low))?;
+            let (high, low) = (digit(*high).unwrap_or(0), digit(*low).unwrap_or(0));
+            bytes.push(high * 16 + low)?;
         }
     }
     Ok(bytes)

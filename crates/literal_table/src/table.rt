@@ -1,5 +1,6 @@
 use crate::answer::{Kind, answer};
 use std::io;
+use std::num::Saturating;
 
 // A line of the table.
 #[derive(Clone, Copy)]
@@ -27,45 +28,42 @@ impl<'a> Row<'a> {
 // What the program has seen of the table.
 #[derive(Clone, Copy, Default)]
 pub struct Counts {
-    integers: usize,
-    minuses: usize,
-    names: usize,
-    floats: usize,
-    strings: usize,
-    regexps: usize,
-    differences: usize,
-    mismatches: usize,
-}
-
-fn more(count: &mut usize) {
-    *count = count.saturating_add(1);
+    integers: Saturating<usize>,
+    minuses: Saturating<usize>,
+    names: Saturating<usize>,
+    floats: Saturating<usize>,
+    strings: Saturating<usize>,
+    regexps: Saturating<usize>,
+    differences: Saturating<usize>,
+    mismatches: Saturating<usize>,
 }
 
 impl Counts {
     fn count(&mut self, kind: Kind) {
-        more(match kind {
+        let count = match kind {
             Kind::Integer => &mut self.integers,
             Kind::Minus => &mut self.minuses,
             Kind::Name => &mut self.names,
             Kind::Float => &mut self.floats,
             Kind::String => &mut self.strings,
             Kind::Regexp => &mut self.regexps,
-        })
+        };
+        *count += 1;
     }
 
     // Compares one line's answer with ours, and prints a line that differs.
     pub fn replay(&mut self, rt: &HostRuntime, line: &str) -> io::Result<()> {
         let Some(row) = Row::read(line) else {
-            more(&mut self.mismatches);
+            self.mismatches += 1;
             return println!(rt; "{line}: not read");
         };
         if row.mark == "!" {
-            more(&mut self.differences);
+            self.differences += 1;
         }
         self.count(row.kind);
         let given = answer(rt.alloc(), row.kind, row.blanks, row.token)?;
         if given.as_str() != row.answer {
-            more(&mut self.mismatches);
+            self.mismatches += 1;
             println!(rt; "{line}: {given}")?;
         }
         Ok(())

@@ -3,7 +3,8 @@ ghost use Rattle.operators.specs.Levels.{level_of, OfTable};
 
 use kinds::SyntaxKind;
 
-// How strongly an operator binds, from 1 (weakest) to 11, as a number, since levels are compared; other kinds are no operators.
+// How strongly an operator binds, from 1 (weakest) to 11; other kinds are no operators.
+// A number, since a reader asks for the next level up (a level and one), and the rows of the table are counted.
 #[tactic(auto, using(crate::proofs::Table::of_table), unfolding(crate::specs::Levels::level_of))]
 pub fn level(kind: SyntaxKind) -> Option<u8>
     ensures value { result ≡ level_of kind }

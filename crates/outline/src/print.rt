@@ -72,7 +72,7 @@ impl fmt::Display for Indent {
 // What a slot says: its content, or a float as the source has it.
 #[derive(Clone, Copy)]
 struct Said<'a> {
-    tree: Tree<'a>,
+    tree: Tree<'a, 'a>,
     slot: &'a Slot,
 }
 
@@ -96,7 +96,7 @@ impl fmt::Display for Said<'_> {
 #[derive(Clone, Copy)]
 struct Shown<'a> {
     form: Form,
-    tree: Tree<'a>,
+    tree: Tree<'a, 'a>,
     number: usize,
 }
 
@@ -131,6 +131,7 @@ impl Shown<'_> {
         match self.form {
             Form::Outline => {
                 let indent = Indent(depth);
+                // The span's ends, not `{:?}` of its range, whose contract says no bytes.
                 write!(
                     f,
                     "{indent}{kind} {}..{}{said}{wildcard}{object}",

@@ -16,7 +16,7 @@ use Rattle.refusal.specs.declared.refusal.Refusal.TheVariants.{Damaged, BadSpan,
 use Rattle.operators.specs.Levels.{among}
 use Rattle.grammar.specs.Words.{Word}
 use Rattle.grammar.specs.Extents.{visible, entries_in, entries_before}
-use Rattle.grammar.specs.Tests.{is_damaged, token_refusal, refusal_in, names}
+use Rattle.grammar.specs.Tests.{is_damaged, last_end, opens, token_refusal, refusal_in, names}
 use Rattle.literal.specs.Texts.{text_of}
 use Rattle.grammar.specs.Causes.{Minus}
 use Rattle.grammar.proofs.Ends.{term_ends}
@@ -136,17 +136,18 @@ handed_on P e q (Err x) h = subst (λ y. P (Err y)) (sym h) q
 handed_on P e q (Ok y) h = absurd h
 
 -- the state behind an event that is counted
-pub counted_state : (p p' : Reader) (e : Event) → Shown p e → Kept p p' → p'.at ≡ p.at + 1 → state_of p' ≡ step (state_of p) e
-counted_state p p' e s k a =
+counted_state : (p p' : Reader) (e : Event) → Shown p e → Kept p p' → p'.at ≡ p.at + 1 → p'.last ≡ last_end p.last (e ∷ []) → p'.opens ≡ opens p.opens (e ∷ []) → state_of p' ≡ step (state_of p) e
+counted_state p p' e s k a l o =
     let past : visible (take p'.at p'.row.now) ≡ (state_of p).past ++ (e ∷ []) =
     ap (λ n. visible (take n p'.row.now)) a ∙ ap (λ r. visible (take (p.at + 1) r.now)) k.row ∙ s.past in
     let source : p'.source.now ≡ p.source.now = ap (λ r. r.now) k.source in
-    λ i. record { source = source i; past = past i }
+    λ i. record { source = source i; past = past i; last = l i; opens = o i }
 
 -- an event that fits and passes is taken
-pub took : (m : Mark) (p p₁ p₂ : Reader) (e : Event) (f : Fits m e) → Peeked p p₁ (Some e) → Kept p₁ p₂ → p₂.at ≡ p₁.at + 1 → state_of p₂ ≡ step (state_of p₁) e → Passes (state_of p₁) e → Took m f.0 p p₂
-took m p p₁ p₂ e f z k a st passes =
+pub took : (m : Mark) (p p₁ p₂ : Reader) (e : Event) (f : Fits m e) → Peeked p p₁ (Some e) → Kept p₁ p₂ → p₂.at ≡ p₁.at + 1 → p₂.last ≡ last_end p₁.last (e ∷ []) → p₂.opens ≡ opens p₁.opens (e ∷ []) → Passes (state_of p₁) e → Took m f.0 p p₂
+took m p p₁ p₂ e f z k a l o passes =
     let x = f.1 in
+    let st = counted_state p₁ p₂ e z.shown k a l o in
     let S : Conf → Event → Type 0 = λ c d. Passes c.state d in
     record {
       split =
@@ -165,6 +166,7 @@ took m p p₁ p₂ e f z k a st passes =
 
     fresh : Fresh p₂
     fresh u d q =
+        let st = counted_state p₁ p₂ e z.shown k a l o in
         let same_past : (state_of p₁).past ≡ u = (snocs (state_of p₁).past u e d (sym (ap (λ x. x.past) st) ∙ q)).0 in
         errors_are ∙ ap (λ w. length (entries_before (length w) p₂.row.now)) same_past
 

@@ -1,5 +1,5 @@
 -- Reading and failing, for any symbols: sequences, choices, and what is left to read.
-use Rattle.std.proofs.Common.{◌≡◌, ℕ, ◌+◌, ◌≤◌, Bool, true, false, ltb, ◌⊎◌, [], ◌∷◌, ◌++◌, length, sym, refl, ap, ◌∙◌, subst, inl, inr, arith, length-append, ltb-false}
+use Rattle.std.proofs.Common.{◌≡◌, ◌+◌, ◌≤◌, Bool, true, false, ltb, ◌⊎◌, [], ◌∷◌, ◌++◌, length, sym, refl, ap, ◌∙◌, subst, inl, inr, arith, length-append, ltb-false}
 use Rattle.std.proofs.lemmas.Bool.{or_parts}
 use Rattle.std.proofs.lemmas.List.{append_assoc, append-nil}
 use Rattle.syntax.specs.declared.event.Event.{Event}
@@ -278,23 +278,15 @@ read_less {f = f} {a = a} {c = c} {c₁ = c₁} s r = by_word r.word r.split r.w
     by_word [] p q = absurd (s a [] (q []))
     by_word (e ∷ w) p q = omega (arith, ap length p, length-append w c₁.rest)
 
--- where the last token ends behind one word more
-pub last_end-++ : (n : ℕ) (u w : Word) → last_end n (u ++ w) ≡ last_end (last_end n u) w
-last_end-++ n [] w = refl
-last_end-++ n (Error m s ∷ u) w = last_end-++ n u w
-last_end-++ n (Begin k s ∷ u) w = last_end-++ n u w
-last_end-++ n (End k s ∷ u) w = last_end-++ n u w
-last_end-++ n (Token k s ∷ u) w = last_end-++ s.end u w
-
 -- a source's places only grow
-pub last_grows : (d : Bool) (st : State) (w : Word) → Clear d st w → last_end 0 st.past ≤ last_end 0 (after st w).past
+pub last_grows : (d : Bool) (st : State) (w : Word) → Clear d st w → st.last ≤ (after st w).last
 last_grows d st [] c = omega arith
 last_grows d st (e ∷ w) c =
     let l = last_step st e c.0.passes.placed in
     let m = last_grows d (step st e) w c.2 in
-    omega (arith, l, m, last_end-++ 0 st.past (e ∷ []))
+    omega (arith, l, m)
   where
-    last_step : (st : State) (e : Event) → misplaced st e ≡ false → last_end 0 st.past ≤ last_end (last_end 0 st.past) (e ∷ [])
+    last_step : (st : State) (e : Event) → misplaced st e ≡ false → st.last ≤ last_end st.last (e ∷ [])
     last_step st (Error m s) p = omega arith
     last_step st (Begin k s) p = omega arith
     last_step st (End k s) p = omega arith
@@ -302,5 +294,5 @@ last_grows d st (e ∷ w) c =
         let a = or_parts (ltb s.end s.start) _ p in
         let b = or_parts (ltb (length st.source) s.end) _ a.1 in
         let x = ltb-false s.end s.start a.0 in
-        let y = ltb-false s.start (last_end 0 st.past) b.1 in
+        let y = ltb-false s.start st.last b.1 in
         omega (arith, x, y)

@@ -29,7 +29,7 @@ pub record Conf : Type 0 where
   pub state : State
 
 abbrev pub state_of : Reader → State
-state_of p = record { source = p.source.now; past = visible (take p.at p.row.now) }
+state_of p = record { source = p.source.now; past = visible (take p.at p.row.now); last = p.last; opens = p.opens }
 
 abbrev pub conf : Reader → Conf
 conf p = record { rest = visible (drop p.at p.row.now); state = state_of p }

@@ -1,18 +1,20 @@
 -- What is known of the events that are read, and what is tested of the next one.
-use Rattle.std.specs.Prelude.{◌≡◌, ℕ, Bool, true, false, cond, List, [], ◌∷◌, ◌++◌, length, None, Ok, Err, Result}
+use Rattle.std.specs.Prelude.{◌≡◌, ℕ, Bool, true, false, cond, ◌||◌, List, [], ◌∷◌, ◌++◌, length, None, Ok, Err, Result, nat_le, nat_lt}
 use Rattle.syntax.specs.Events.{span_at}
 use Rattle.syntax.specs.declared.event.Event.{Event}
 use Rattle.syntax.specs.declared.event.Event.TheVariants.{Error, Begin, End, Token}
 use Rattle.refusal.specs.declared.refusal.Refusal.{Refusal}
 use Rattle.refusal.specs.declared.refusal.Refusal.TheVariants.{Damaged, BadSpan}
 use Rattle.grammar.specs.Words.{Word}
-use Rattle.grammar.specs.Tests.{is_damaged, is_misplaced, is_too_deep, token_refusal}
+use Rattle.grammar.specs.Tests.{is_damaged, last_end, opens as opens_from, token_refusal}
 use Rattle.grammar.specs.Causes.{Minus}
 
--- the source and the events read
+-- the source, the events read, where the last token among them ends and how many nodes they leave open
 pub record State : Type 0 where
   pub source : List ℕ
   pub past : Word
+  pub last : ℕ
+  pub opens : ℕ
 
 abbrev pub is_error : Event → Bool
 is_error (Error m s) = true
@@ -20,12 +22,20 @@ is_error (Begin k s) = false
 is_error (End k s) = false
 is_error (Token k s) = false
 
--- the grammar's tests, behind the events read
+-- the grammar's tests, is_misplaced and is_too_deep, over numbers, since a reader may be made with any numbers:
+-- a token that is reversed, lies outside the source, or begins before the last one ends
 abbrev pub misplaced : State → Event → Bool
-misplaced st e = is_misplaced (length st.source) st.past e
+misplaced st (Error m s) = false
+misplaced st (Begin k s) = false
+misplaced st (End k s) = false
+misplaced st (Token k s) = nat_lt s.end s.start || (nat_lt (length st.source) s.end || nat_lt s.start st.last)
 
+-- a Begin where 3,000 nodes are open
 abbrev pub is_past_depth : State → Event → Bool
-is_past_depth st e = is_too_deep st.past e
+is_past_depth st (Error m s) = false
+is_past_depth st (Begin k s) = nat_le 3000 st.opens
+is_past_depth st (End k s) = false
+is_past_depth st (Token k s) = false
 
 -- the refusal of an event for what it is or where it stands
 abbrev pub judged : State → Event → Result (Unit {0}) Refusal
@@ -35,7 +45,7 @@ judged st e =
 -- one event more, and a word more
 abbrev pub step : State → Event → State
 step st e =
-    record { source = st.source; past = st.past ++ (e ∷ []) }
+    record { source = st.source; past = st.past ++ (e ∷ []); last = last_end st.last (e ∷ []); opens = opens_from st.opens (e ∷ []) }
 
 abbrev pub after : State → Word → State
 after st [] = st

@@ -1,8 +1,12 @@
-ghost use Rattle.std.specs.Prelude.{◌≡◌, take, drop};
+ghost use Rattle.std.specs.Prelude.{◌≡◌, ◌+◌, ◌<◌, true, false, [], ◌∷◌, length, take as first_of, drop};
 ghost use Rattle.std.specs.List.{prefix_len};
-ghost use Rattle.grammar.specs.Extents.{visible};
-ghost use Rattle.grammar.specs.Tests.{is_damaged, last_end, opens as opens_behind};
-ghost use Rattle.reader.specs.States.{is_error};
+ghost use Rattle.operators.specs.Levels.{among};
+ghost use Rattle.grammar.specs.Extents.{entries_in};
+ghost use Rattle.grammar.specs.Tests.{is_damaged, last_end, names, opens as opens_from};
+ghost use Rattle.reader.specs.States.{is_error, misplaced, is_past_depth, judged};
+ghost use Rattle.reader.specs.Symbols.Sym.{one};
+ghost use Rattle.reader.specs.Contract.{state_of, Kept, Peeked, Saw, Takes, There, Anywhere, Parses, Compared, Finished};
+ghost use Rattle.reader.specs.declared.mark.Mark.TheVariants.{Begin as BeginOf, End as EndOf, Token as TokenOf};
 
 use crate::mark::Mark;
 use kinds::SyntaxKind;
@@ -23,8 +27,6 @@ pub struct Reader<'a> {
     // Where the last token ended, and how many nodes are open.
     pub last: u32,
     pub opens: usize,
-    ghost last_is: { last ≡ last_end 0 (visible (take at row.now)) },
-    ghost opens_is: { opens ≡ opens_behind 0 (visible (take at row.now)) },
 }
 
 fn is_error(event: &Event) -> bool
@@ -40,17 +42,8 @@ fn is_damaged(event: Event) -> bool
 }
 
 impl<'a> Reader<'a> {
-    ghost use Rattle.std.specs.Prelude.{◌+◌, true, false, length, refl};
-    ghost use Rattle.operators.specs.Levels.{among};
-    ghost use Rattle.grammar.specs.Extents.{entries_in};
-    ghost use Rattle.grammar.specs.Tests.{names};
-    ghost use Rattle.reader.specs.States.{is_past_depth, misplaced, judged, step};
-    ghost use Rattle.reader.specs.Symbols.Sym.{one};
-    ghost use Rattle.reader.specs.Contract.{state_of, Kept, Shown, Peeked, Saw, Takes, There, Anywhere, Parses, Compared, Finished};
-    ghost use Rattle.reader.specs.declared.mark.Mark.TheVariants.{Begin as BeginOf, End as EndOf, Token as TokenOf};
-
     pub fn new(source: &'a [u8], row: &'a [Event]) -> Self
-        ensures { result ≡ record { source = source.entry; row = row.entry; at = 0; last = 0; opens = 0; last_is = refl; opens_is = refl } }
+        ensures { result ≡ record { source = source.entry; row = row.entry; at = 0; last = 0; opens = 0 } }
     {
         Reader {
             source,
@@ -90,10 +83,11 @@ impl<'a> Reader<'a> {
     // Counts the event, and goes past it.
     fn count(&mut self, event: Event)
         requires shallow { is_past_depth (state_of self.old) event ≡ false }
-        requires shown { Shown self.old event }
+        requires at_in_bounds { self.old.at < length self.old.row.now }
         ensures kept { Kept self.old self.new }
         ensures place { self.new.at ≡ self.old.at + 1 }
-        ensures state { state_of self.new ≡ step (state_of self.old) event }
+        ensures last { self.new.last ≡ last_end self.old.last (event ∷ []) }
+        ensures opens { self.new.opens ≡ opens_from self.old.opens (event ∷ []) }
     {
         match event {
             Event::Begin { .. } => self.opens += 1,
@@ -135,7 +129,7 @@ impl<'a> Reader<'a> {
         ensures { Takes mark There self.old self.new result }
     {
         let Some(event) = self.peek() else {
-            return Err(Refusal::OutOfPlace(Span { start: 0, end: 0 }));
+            return Err(Refusal::OutOfPlace(Span::default()));
         };
         self.judge(event)?;
         let span = event.span();
@@ -149,6 +143,7 @@ impl<'a> Reader<'a> {
         Ok(span)
     }
 
+    // begin and end differ in one constant: they are two, so that calls read as the grammar does.
     pub fn begin(&mut self, kind: SyntaxKind) -> Result<(), Refusal>
         ensures { Takes (BeginOf kind) Anywhere self.old self.new result }
     {
@@ -203,7 +198,7 @@ impl<'a> Reader<'a> {
 
     // How many Error events were passed over.
     pub fn errors(&self) -> usize
-        ensures { result ≡ length (entries_in (take self.now.at self.now.row.now)) }
+        ensures { result ≡ length (entries_in (first_of self.now.at self.now.row.now)) }
     {
         self.row
             .iter()

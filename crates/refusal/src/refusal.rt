@@ -54,7 +54,7 @@ impl Refusal {
         ensures layer { result.layer ≡ (facts_of self.now).layer }
         ensures place { result.place ≡ (facts_of self.now).place }
     {
-        let nowhere = Span { start: 0, end: 0 };
+        let nowhere = Span::default();
         let (number, word, layer, place) = match self {
             Refusal::Damaged(place) => (1, "Damaged", Layer::Grammar, *place),
             Refusal::OutOfPlace(place) => (2, "OutOfPlace", Layer::Grammar, *place),

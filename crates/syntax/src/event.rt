@@ -20,7 +20,7 @@ impl Event {
     {
         Event::Error {
             message: 0,
-            span: Span { start: 0, end: 0 },
+            span: Span::default(),
         }
     }
 

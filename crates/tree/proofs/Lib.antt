@@ -1,3 +1,4 @@
+pub mod Equal
 pub mod Flags
 pub mod Counts
 pub mod Stores

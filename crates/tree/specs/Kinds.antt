@@ -1,5 +1,6 @@
 -- The kinds of node, by number and by name.
 use Rattle.std.specs.Prelude.{ℕ, Bool, List, [], ◌∷◌, codes, Option, ◌==◌}
+use Rattle.std.specs.Cmp.{IsPartialEquivalence, partial_equiv_from_equiv, on_equiv, nat_eq_equiv}
 use Rattle.std.specs.List.{slice_get}
 use Rattle.tree.specs.declared.node.NodeKind.{NodeKind}
 use Rattle.tree.specs.declared.node.NodeKind.TheVariants.{Blank, True, False, Filesize, Entrypoint, LiteralString, LiteralInteger, LiteralFloat, Regexp, Ident, PatternMatch, PatternCount, PatternOffset, PatternLength, Lookup, FieldAccess, FuncCall, Defined, Not, And, Or, Minus, Add, Sub, Mul, Div, Mod, BitwiseNot, Shl, Shr, BitwiseAnd, BitwiseOr, BitwiseXor, Eq, Ne, Lt, Gt, Le, Ge, Contains, IContains, StartsWith, IStartsWith, EndsWith, IEndsWith, IEquals, Matches, Of, ForOf, ForIn, With, Range, At, In, QuantifierNone, QuantifierAll, QuantifierAny, QuantifierPercentage, QuantifierExpr, Them, Set, SetItem, BoolTuple, ExprTuple, WithDeclaration}
@@ -83,6 +84,10 @@ number_of WithDeclaration = 64
 -- whether two kinds are the same, by their numbers
 abbrev pub same : NodeKind → NodeKind → Bool
 same a b = number_of a == number_of b
+
+-- that is symmetric, and holds along a chain
+pub same_laws : IsPartialEquivalence same
+same_laws = partial_equiv_from_equiv (on_equiv number_of nat_eq_equiv)
 
 -- a kind's name, as people write it
 abbrev pub name_of : NodeKind → List ℕ

@@ -9,6 +9,6 @@ mod slot;
 
 pub use laws::{layout_holds, one_tree, reached_once};
 pub use node::NodeKind;
-pub use place::Placer;
+pub use place::{Aside, Placer};
 pub use read::{Content, Origin, Tree, part};
 pub use slot::{CASE_INSENSITIVE, DECODED, DOT_MATCHES_NEW_LINE, OBJECT, Slot, UNSIGNED, WILDCARD};

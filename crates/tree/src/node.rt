@@ -1,5 +1,5 @@
 ghost use Rattle.std.specs.Prelude.{◌≡◌, Some};
-ghost use Rattle.tree.specs.Kinds.{number_of, kind_of, name_of};
+ghost use Rattle.tree.specs.Kinds.{number_of, kind_of, name_of, same};
 
 use std::fmt;
 
@@ -79,6 +79,7 @@ impl NodeKind {
     pub fn number(self) -> u8
         ensures value { result ≡ number_of self }
         ensures back { kind_of result ≡ Some self }
+        ensures same { (k : NodeKind) → ⟦<NodeKind as PartialEq>⟧.eq self k ≡ same self k }
     {
         self as u8
     }

@@ -18,6 +18,13 @@ pub struct Placer<'s> {
     pub root: Slot,
 }
 
+// A node put aside until its next child is the root, and the link to its last child, if it has one.
+#[derive(Clone, Copy, Debug, PartialEq)]
+pub struct Aside {
+    pub root: Slot,
+    pub last: usize,
+}
+
 // Gives a sibling to the slot that a link leads to, if there is one.
 fn link(slots: &mut [Slot], last: usize, next: usize)
     ensures { slots.new ≡ linked slots.old last next }
@@ -38,19 +45,39 @@ impl Placer<'_> {
         self.used
     }
 
-    // Places the root as the next child of `parent`, which becomes the root.
-    // `last` is how many slots were used when the parent was put aside: the link to its last child, if it had one.
-    pub fn adopt(&mut self, parent: Slot, last: usize)
-        ensures after { Leaves (adopted parent last self.old.root (memory_of self.old)) (adopted_root parent (counted self.old.used)) self.old self.new }
-        ensures grows { Grows parent last self.old.root (memory_of self.old) self.new.root (memory_of self.new) }
+    // The root, put aside. Its last child, if it has one, stands in the slot used last.
+    pub fn put_aside(&self) -> Aside
+        ensures { result ≡ record { root = self.now.root; last = self.now.used } }
+    {
+        Aside {
+            root: self.root,
+            last: self.used,
+        }
+    }
+
+    // Places the root as the next child of a node put aside, which becomes the root.
+    pub fn adopt(&mut self, parent: Aside)
+        ensures after { Leaves (adopted parent.root parent.last self.old.root (memory_of self.old)) (adopted_root parent.root (counted self.old.used)) self.old self.new }
+        ensures grows { Grows parent.root parent.last self.old.root (memory_of self.old) self.new.root (memory_of self.new) }
     {
         let child = self.place();
-        self.root = parent;
-        if parent.first == 0 {
+        self.root = parent.root;
+        if parent.root.first == 0 {
             self.root.first = child;
         } else {
-            link(self.slots, last, child);
+            link(self.slots, parent.last, child);
         }
+    }
+
+    // Places the root as the first child of a new node, which becomes the root.
+    pub fn raise(&mut self, parent: Slot)
+        ensures after { Leaves (adopted parent self.old.used self.old.root (memory_of self.old)) (adopted_root parent (counted self.old.used)) self.old self.new }
+        ensures grows { Grows parent self.old.used self.old.root (memory_of self.old) self.new.root (memory_of self.new) }
+    {
+        self.adopt(Aside {
+            root: parent,
+            last: self.used,
+        });
     }
 
     // A byte of decoded text, behind what was written, as far as there is room.

@@ -39,9 +39,9 @@ pub enum Content<'a> {
 }
 
 // A tree in slots, and the source and the decoded text that its slots name parts of.
-#[derive(Clone, Copy)]
-pub struct Tree<'a> {
-    pub slots: &'a [Slot],
+#[derive(Clone, Copy, Debug)]
+pub struct Tree<'s, 'a> {
+    pub slots: &'s [Slot],
     pub source: &'a [u8],
     pub text: &'a [u8],
 }
@@ -66,7 +66,7 @@ fn siblings(slots: &[Slot], mut link: usize) -> Option<usize>
     None
 }
 
-impl<'a> Tree<'a> {
+impl<'a> Tree<'_, 'a> {
     fn string(&self, slot: &Slot) -> Option<Content<'a>>
         ensures { option_map seen result ≡ leaf_in as_string slot.now self.now.source.now self.now.text.now }
     {

@@ -39,7 +39,7 @@ impl Slot {
     {
         Slot {
             span,
-            name: Span { start: 0, end: 0 },
+            name: Span::default(),
             first: 0,
             next: 0,
             value: 0,
@@ -53,7 +53,7 @@ impl Slot {
     pub fn blank() -> Slot
         ensures { result ≡ blank_slot }
     {
-        Slot::new(NodeKind::Blank, Span { start: 0, end: 0 })
+        Slot::new(NodeKind::Blank, Span::default())
     }
 
     // Whether a flag is set.

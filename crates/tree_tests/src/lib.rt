@@ -25,7 +25,7 @@ mod tests {
         }
     }
 
-    fn tree(slots: &[Slot]) -> Tree<'_> {
+    fn tree(slots: &[Slot]) -> Tree<'_, 'static> {
         Tree {
             slots,
             source: b"abc",

@@ -13,12 +13,12 @@ pub returns-in_err-written : goal.returns-in_err-written
 returns-in_err-written c =
     c.from_residual.ensures
     ∙ sym (scaled_none (plain_number (before c.args.literal.now)) (factor c.args.literal.now) (factor_pos c.args.literal.now)
-    (plain c.args.literal.now c.strip_size_suffix-factor.result.0.now c.as_bytes.result.now c.split_base-radix.result.1 None c.strip_size_suffix-factor.ensures.value.0 (c.split_base-radix.ensures.value ∙ ap (λ (l : List ℕ). written c.split_base-radix.result.1 (without l)) (sym c.as_bytes.ensures.value)) c.in_err-written.ensures))
+    (plain c.args.literal.now c.strip_size_suffix-factor.result.0.now c.as_bytes.result.now c.split_base.result.1.radix None c.strip_size_suffix-factor.ensures.value.0 (c.split_base.ensures ∙ ap (λ (l : List ℕ). written c.split_base.result.1.radix (without l)) (sym c.as_bytes.ensures.value)) c.in_err-written.ensures))
 
 pub returns : goal.returns
 returns c =
     let f = c.strip_size_suffix-factor.ensures.value.1 in
     let n = c.in_ok-written.field-0 in
     scaled_some (plain_number (before c.args.literal.now)) c.checked_mul.result n (factor c.args.literal.now)
-    (plain c.args.literal.now c.strip_size_suffix-factor.result.0.now c.as_bytes.result.now c.split_base-radix.result.1 (Some n) c.strip_size_suffix-factor.ensures.value.0 (c.split_base-radix.ensures.value ∙ ap (λ (l : List ℕ). written c.split_base-radix.result.1 (without l)) (sym c.as_bytes.ensures.value)) c.in_ok-written.ensures)
+    (plain c.args.literal.now c.strip_size_suffix-factor.result.0.now c.as_bytes.result.now c.split_base.result.1.radix (Some n) c.strip_size_suffix-factor.ensures.value.0 (c.split_base.ensures ∙ ap (λ (l : List ℕ). written c.split_base.result.1.radix (without l)) (sym c.as_bytes.ensures.value)) c.in_ok-written.ensures)
     (subst (λ k. SomeIff c.checked_mul.result (n * k < 2 ^ 64) (n * k)) f c.checked_mul.ensures)

@@ -19,14 +19,14 @@ pub returns-in_default-state : goal.returns-in_default-state
 returns-in_default-state c =
     let l : length c.args.text.now ≡ c.loop-i.i = omega arith in
     let e = cut_at _ _ _ _ _ _ c.loop-i.state c.loop-i.i (length c.args.text.now - c.held-in_default-state.result) l c.loop-i.invariant.0 (omega (arith, l, c.held-in_default-state.ensures)) c.in_default-state.not-Plain in
-    record { value = e.value; items = e.memory; used = e.counts; same = c.loop-i.invariant.1 }
+    record { value = e.value; memory = record { items = e.memory; used = e.counts; same = c.loop-i.invariant.1 } }
 
 pub returns-in_default : goal.returns-in_default
 returns-in_default c =
     let e = bad_at _ _ _ _ _ _ c.loop-i.state c.loop-i.i (c.loop-i.i - c.held.result) c.loop-i-test.true c.loop-i.invariant.0 (ap (λ k. c.loop-i.i - k) c.held.ensures) (sym c.in_default.is ∙ c.step.ensures.value) in
-    record { value = e.value; items = e.memory; used = e.counts; same = c.loop-i.invariant.1 }
+    record { value = e.value; memory = record { items = e.memory; used = e.counts; same = c.loop-i.invariant.1 } }
 
 pub returns-in-Plain : goal.returns-in-Plain
 returns-in-Plain c =
     let e = whole _ _ _ _ _ _ c.loop-i.state c.loop-i.i c.loop-i-test.false c.loop-i.invariant.0 c.in-Plain.is in
-    record { value = e.value; items = e.memory; used = e.counts; same = c.loop-i.invariant.1 }
+    record { value = e.value; memory = record { items = e.memory; used = e.counts; same = c.loop-i.invariant.1 } }

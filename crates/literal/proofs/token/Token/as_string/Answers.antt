@@ -1,10 +1,13 @@
-use Rattle.std.proofs.Common.{◌≡◌, drop, Err, ap, ◌∙◌, subst}
-use Rattle.lent.specs.Lists.{overlay}
+use Rattle.std.proofs.Common.{◌≡◌, ℕ, List, drop, Err, ap, ◌∙◌, subst}
+use Rattle.lent.specs.declared.memory.Lent.{Lent}
 use Rattle.literal.specs.Machine.{count_of}
-use Rattle.literal.specs.Memory.{counted_all}
+use Rattle.literal.specs.Memory.{Puts}
 use Rattle.literal.proofs.Refusing.{chosen, found, refused_by, decoded}
 use Rattle.literal.proofs.Standing.{refused_at}
 use Rattle.literal.proofs.token.Token.as_string.Goals as goal
+
+held : {a b : List ℕ} {old new : Lent ℕ} → a ≡ b → Puts a old new → Puts b old new
+held {a} {b} {old} {new} e p = subst (λ l. Puts l old new) e p
 
 pub escape_place-requires : goal.escape_place-requires
 escape_place-requires c = let r = refused_at c.in-Some.inner.text.now c.in-Err.at (subst (λ l. Err c.in-Err.at ≡ count_of l) c.as_bytes-bytes.ensures.value c.in-Err.ensures.value) in (r.1, r.2)
@@ -20,7 +23,5 @@ returns-in-Err c =
     let d = decoded t s c.in-Some.inner.span i _ c.in-Some.ensures h v in
     record {
       value = ap Err (chosen s c.escape_place.result c.map_or.result c.map_or.ensures) ∙ refused_by t s c.in-Some.inner.span c.args.text.now.used i (drop c.in-Err.at i) c.escape_place.result c.in-Some.ensures h r.0 c.escape_place.ensures;
-      items = c.in-Err.ensures.items ∙ ap (overlay c.args.text.now.items.now c.args.text.now.used) d;
-      used = c.in-Err.ensures.used ∙ ap (counted_all c.args.text.now.used) d;
-      same = c.in-Err.ensures.same;
+      memory = held d c.in-Err.ensures.memory;
     }

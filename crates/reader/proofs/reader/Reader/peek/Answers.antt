@@ -2,7 +2,7 @@ use Rattle.std.proofs.Common.{◌+◌, drop, refl, ap, ◌∙◌, arith, length-
 use Rattle.std.proofs.slice.Searches.{copied_from_item}
 use Rattle.std.proofs.lemmas.List.Sums.{prefix_len-le-length}
 use Rattle.reader.specs.States.{is_error}
-use Rattle.reader.proofs.Readers.{peeked, last_kept, opens_kept}
+use Rattle.reader.proofs.Readers.{peeked}
 use Rattle.reader.proofs.reader.Reader.peek.Goals as goal
 
 pub overflow_add-self : goal.overflow_add-self
@@ -13,9 +13,5 @@ overflow_add-self c =
 pub returns : goal.returns
 returns c =
     let p = c.args.self.now in
-    peeked p _ _ (record { row = refl; source = refl }) (ap (λ n. p.at + n) c.errors_ahead.ensures)
+    peeked p _ _ (record { row = refl; source = refl }) (ap (λ n. p.at + n) c.errors_ahead.ensures) refl refl
     (c.copied.ensures ∙ copied_from_item _ _ _ _ (λ h. h) (λ h. h) c.get.ensures.lookup)
-
-pub invariant_of-self : goal.invariant_of-self
-invariant_of-self c =
-    record { last_is = last_kept c.args.self.now _ c.errors_ahead.ensures; opens_is = opens_kept c.args.self.now _ c.errors_ahead.ensures }

@@ -1,4 +1,5 @@
-use Rattle.std.proofs.Common.{sym, ◌∙◌}
+use Rattle.std.proofs.Common.{◌≡◌, sym, ◌∙◌, rules}
+use Rattle.syntax.specs.Spans.{span_of}
 use Rattle.syntax.specs.declared.span.Span.{Span}
 use Rattle.refusal.specs.declared.refusal.Refusal.TheVariants.{OutOfPlace, TooDeep}
 use Rattle.reader.specs.Symbols.{Fits}
@@ -7,7 +8,9 @@ use Rattle.reader.proofs.Takes.{kept_trans, over, not_taken, sound, unsound, at_
 use Rattle.reader.proofs.reader.Reader.take.Goals as goal
 
 pub returns-in_default : goal.returns-in_default
-returns-in_default c = over c.args.mark There c.args.self.now c.peek.new.self c.in_default.ensures
+returns-in_default c =
+    let e : c.default.result ≡ span_of 0 0 = search rules in
+    rw e (over c.args.mark There c.args.self.now c.peek.new.self c.in_default.ensures)
 
 pub returns-in_err-judge : goal.returns-in_err-judge
 returns-in_err-judge c =
@@ -34,7 +37,7 @@ returns c =
       outcome = (
         f.0,
         c.span-span.ensures ∙ fit_span c.args.mark c.in-Some.event f,
-        took c.args.mark c.args.self.now c.peek.new.self c.count.new.self c.in-Some.event f c.in-Some.ensures c.count.ensures.kept c.count.ensures.place c.count.ensures.state
+        took c.args.mark c.args.self.now c.peek.new.self c.count.new.self c.in-Some.event f c.in-Some.ensures c.count.ensures.kept c.count.ensures.place c.count.ensures.last c.count.ensures.opens
             (record { sound = s.0; placed = s.1; shallow = sym c.if-is_too_deep.ensures }),
       );
     }
