@@ -44,7 +44,7 @@ part_of (c ∷ x) a (d ∷ z) y e l =
     let p = part_of x a z y (tails e) l in
     (p.0, p.1, ap2 (λ e u. e ∷ u) (sym (heads e)) p.2)
 
-opens-++ : (n : ℕ) (u w : Word) → opens n (u ++ w) ≡ opens (opens n u) w
+pub opens-++ : (n : ℕ) (u w : Word) → opens n (u ++ w) ≡ opens (opens n u) w
 opens-++ n [] w = refl
 opens-++ n (Error m s ∷ u) w = opens-++ n u w
 opens-++ n (Begin k s ∷ u) w = opens-++ (n + 1) u w

@@ -12,7 +12,7 @@ use Rattle.grammar.proofs.OneCause.{neither}
 use Rattle.grammar.specs.Conditions.{Begins}
 use Rattle.grammar.specs.Laws.{FrontsBegin, ClosedIsWhole, NeverOutOfPlace, WithoutCauseSpelled, SpelledWithoutCause}
 use Rattle.grammar.proofs.Ends.{whole_front, whole_closes}
-use Rattle.grammar.proofs.Soundness.{Sound, sound-BE, sound_at}
+use Rattle.grammar.proofs.Soundness.{not_damaged, Sound, sound-BE, sound_at}
 
 pub fronts_begin : FrontsBegin
 fronts_begin u w b =
@@ -31,7 +31,7 @@ closed_is_whole =
 pub never_out_of_place : NeverOutOfPlace
 never_out_of_place v s u w e p =
     let spelled = sym s.spelled ∙ p in (
-      sound_at u e w (subst Sound spelled (sound-BE s.value [] tt)),
+      not_damaged e (sound_at u e w (subst Sound spelled (sound-BE s.value [] tt))),
       record { value = s.value; more = w; spelled = spelled ∙ sym (append_assoc u (e ∷ []) w) },
     )
 

@@ -7,5 +7,7 @@ pub mod OneAnswer
 pub mod Least
 pub mod Soundness
 pub mod Laws
+pub mod Own
 pub mod Worked
+pub mod WorkedAnswers
 pub mod Accepting

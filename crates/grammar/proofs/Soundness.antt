@@ -1,7 +1,16 @@
--- No event of a condition is damaged.
-use Rattle.std.proofs.Common.{◌≡◌, false, [], ◌∷◌, ◌++◌, refl}
+-- Each event of a condition is one of a word: no Error event, not damaged, no boundary and no trivia.
+use Rattle.std.proofs.Common.{◌≡◌, Bool, true, false, ◌||◌, T as IsTrue, [], ◌∷◌, ◌++◌, is_some, refl, ap, ◌∙◌, subst, eqb-true}
+use Rattle.std.proofs.lemmas.Bool.{or_from, or_parts}
+use Rattle.kinds.specs.Kinds.{number_of, same}
+use Rattle.kinds.specs.declared.kind.SyntaxKind.{SyntaxKind}
+use Rattle.kinds.specs.declared.kind.SyntaxKind.TheVariants.{COMMENT, WHITESPACE, NEWLINE}
+use Rattle.kinds.proofs.Inverse.{number_same}
+use Rattle.operators.specs.Levels.{level_of}
+use Rattle.syntax.specs.Events.{is_trivia, is_boundary}
 use Rattle.syntax.specs.declared.event.Event.{Event}
-use Rattle.grammar.specs.Words.{Word}
+use Rattle.syntax.specs.declared.event.Event.TheVariants.{Error, Begin, End, Token}
+use Rattle.syntax.specs.declared.span.Span.{Span}
+use Rattle.grammar.specs.Words.{Word, Operator}
 use Rattle.grammar.specs.Grammar.{BE, Bs, B, InB, OptA, Es, E, Ts, T, InT, OptR, OptX, Ps, P, InP, C, Args, BEs, R, Q, InQ, S, I, OptStar, Is, L, InL, CEs, F, InF, Vs, G, O, Items, W, Ds, D, spell-BE, spell-Bs, spell-B, spell-InB, spell-OptA, spell-Es, spell-E, spell-Ts, spell-T, spell-InT, spell-OptR, spell-OptX, spell-Ps, spell-P, spell-InP, spell-C, spell-Args, spell-BEs, spell-R, spell-Q, spell-InQ, spell-S, spell-I, spell-OptStar, spell-Is, spell-L, spell-InL, spell-CEs, spell-F, spell-InF, spell-Vs, spell-G, spell-O, spell-Items, spell-W, spell-Ds, spell-D}
 use Rattle.grammar.specs.Grammar.BE.{boolean_expr}
 use Rattle.grammar.specs.Grammar.Bs.{no-B, op-B}
@@ -42,9 +51,43 @@ use Rattle.grammar.specs.Grammar.Ds.{no-D, comma-D}
 use Rattle.grammar.specs.Grammar.D.{with_decl}
 use Rattle.grammar.specs.Tests.{is_damaged}
 
+-- an event that stands in no condition's word
+abbrev pub stray : Event → Bool
+stray (Error m s) = true
+stray (Begin k s) = is_damaged (Begin k s) || is_boundary (Begin k s)
+stray (End k s) = is_boundary (End k s)
+stray (Token k s) = is_trivia (Token k s)
+
+pub not_damaged : (e : Event) → stray e ≡ false → is_damaged e ≡ false
+not_damaged (Error m s) h = refl
+not_damaged (Begin k s) h = (or_parts (is_damaged (Begin k s)) _ h).0
+not_damaged (End k s) h = refl
+not_damaged (Token k s) h = refl
+
+pub no_boundary : (e : Event) → stray e ≡ false → is_boundary e ≡ false
+no_boundary (Error m s) h = refl
+no_boundary (Begin k s) h = (or_parts (is_damaged (Begin k s)) _ h).1
+no_boundary (End k s) h = h
+no_boundary (Token k s) h = refl
+
+-- a kind that has a level is none that has none
+apart_from : (k t : SyntaxKind) → IsTrue (is_some (level_of k)) → is_some (level_of t) ≡ false → same k t ≡ false
+apart_from k t h n = go (same k t) refl
+  where
+    go : (b : Bool) → same k t ≡ b → b ≡ false
+    go false e = refl
+    go true e =
+        absurd (subst IsTrue (ap (λ x. is_some (level_of x)) (number_same k t (eqb-true (number_of k) (number_of t) e)) ∙ n) h)
+
+operator_own : (o : Operator) (s : Span) → stray (Token o.kind s) ≡ false
+unfolding level_of
+operator_own o s =
+    or_from (same o.kind WHITESPACE) (same o.kind NEWLINE || same o.kind COMMENT) (apart_from o.kind WHITESPACE o.is refl)
+    (or_from (same o.kind NEWLINE) (same o.kind COMMENT) (apart_from o.kind NEWLINE o.is refl) (apart_from o.kind COMMENT o.is refl))
+
 abbrev pub Sound : Word → Type 0
 Sound [] = Unit {0}
-Sound (e ∷ w) = (is_damaged e ≡ false) × Sound w
+Sound (e ∷ w) = (stray e ≡ false) × Sound w
 
 mutual
   unfolding spell-BE
@@ -54,7 +97,7 @@ mutual
 
   pub sound-Bs : (x : Bs) (k : Word) → Sound k → Sound (spell-Bs x k)
   sound-Bs no-B k h = h
-  sound-Bs (op-B o s0 x2 x3) k h = (refl, (sound-B x2 _ (sound-Bs x3 _ h)))
+  sound-Bs (op-B o s0 x2 x3) k h = (operator_own o s0, (sound-B x2 _ (sound-Bs x3 _ h)))
 
   pub sound-B : (x : B) (k : Word) → Sound k → Sound (spell-B x k)
   sound-B (boolean_term s0 x1 s1) k h = (refl, (sound-InB x1 _ (refl, h)))
@@ -78,14 +121,14 @@ mutual
 
   pub sound-Es : (x : Es) (k : Word) → Sound k → Sound (spell-Es x k)
   sound-Es no-E k h = h
-  sound-Es (op-E o s0 x2 x3) k h = (refl, (sound-E x2 _ (sound-Es x3 _ h)))
+  sound-Es (op-E o s0 x2 x3) k h = (operator_own o s0, (sound-E x2 _ (sound-Es x3 _ h)))
 
   pub sound-E : (x : E) (k : Word) → Sound k → Sound (spell-E x k)
   sound-E (expr s0 x1 x2 s1) k h = (refl, (sound-T x1 _ (sound-Ts x2 _ (refl, h))))
 
   pub sound-Ts : (x : Ts) (k : Word) → Sound k → Sound (spell-Ts x k)
   sound-Ts no-T k h = h
-  sound-Ts (op-T o s0 x2 x3) k h = (refl, (sound-T x2 _ (sound-Ts x3 _ h)))
+  sound-Ts (op-T o s0 x2 x3) k h = (operator_own o s0, (sound-T x2 _ (sound-Ts x3 _ h)))
 
   pub sound-T : (x : T) (k : Word) → Sound k → Sound (spell-T x k)
   sound-T (term s0 x1 s1) k h = (refl, (sound-InT x1 _ (refl, h)))
@@ -206,6 +249,6 @@ mutual
   pub sound-D : (x : D) (k : Word) → Sound k → Sound (spell-D x k)
   sound-D (with_decl s0 s1 s2 x3 s3) k h = (refl, (refl, (refl, (sound-E x3 _ (refl, h)))))
 
-pub sound_at : (u : Word) (e : Event) (w : Word) → Sound (u ++ (e ∷ w)) → is_damaged e ≡ false
+pub sound_at : (u : Word) (e : Event) (w : Word) → Sound (u ++ (e ∷ w)) → stray e ≡ false
 sound_at [] e w h = h.0
 sound_at (a ∷ u) e w h = sound_at u e w h.1

@@ -10,4 +10,6 @@ pub mod Extents
 pub mod Answers
 pub mod Acceptance
 pub mod Laws
+pub mod Own
 pub mod Examples
+pub mod WorkedAnswers

@@ -6,7 +6,9 @@ mod entry;
 ghost use Rattle.grammar.specs.Acceptance.{AcceptedExactly, AcceptedHolds};
 ghost use Rattle.grammar.specs.Answers.{OneAnswer};
 ghost use Rattle.grammar.specs.Examples.{Examples};
+ghost use Rattle.grammar.specs.WorkedAnswers.{WorkedAnswers};
 ghost use Rattle.grammar.specs.Laws.{OneReading, Nesting, OneCause, OneFirstCause, FrontsBegin, ClosedIsWhole, NeverOutOfPlace, WithoutCauseSpelled, SpelledWithoutCause};
+ghost use Rattle.grammar.specs.Own.{OwnExtent};
 
 pub use entry::Entry;
 
@@ -50,12 +52,20 @@ pub fn worked_examples()
     ensures { Examples }
 {}
 
+pub fn worked_answers()
+    ensures { WorkedAnswers }
+{}
+
 pub fn what_closes_without_cause_is_spelled()
     ensures { WithoutCauseSpelled }
 {}
 
 pub fn a_condition_within_its_limits_has_no_cause()
     ensures { SpelledWithoutCause }
+{}
+
+pub fn a_condition_is_its_own_extent()
+    ensures { OwnExtent }
 {}
 
 pub fn a_condition_has_one_answer()
