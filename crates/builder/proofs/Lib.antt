@@ -1,0 +1,3 @@
+pub mod Growths
+pub mod Steps
+pub mod Optionals

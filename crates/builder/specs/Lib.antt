@@ -1,0 +1,3 @@
+pub mod Growth
+pub mod Builds
+pub mod Leaves
