@@ -22,6 +22,13 @@ pub record Optional {A B : Type 0} (m : Mark) (f : Sym A) (g : Sym B) : Type 0 w
   pub nothing : (k : Word) → spell f none k ≡ k
   pub something : (s : Span) (b : B) (k : Word) → spell f (some s b) k ≡ event m s ∷ spell g b k
 
+-- what does not go on with an event does not begin as such words do
+pub not_ahead : (m : Mark) (u : Word) (s : Span) (y w : Word) → (Ahead u (Fits m) → ⊥) → Alike u w → w ≡ event m s ∷ y → ⊥
+not_ahead m [] s y w n i e = nil_cons (sym (i.none refl) ∙ e)
+not_ahead m (d ∷ u) s y w n i e =
+    let z = i.first d u refl in
+    n (record { first = d; others = u; front = refl; so = (s, heads (sym z.1 ∙ e)) })
+
 module _ {A B C : Type 0} {m : Mark} {f : Sym A} {g : Sym B} (L : Sym C) (x : Optional m f g) where
   -- the row goes on with the event, and what follows the part does not
   pub seen : {v : Word} (ms : List Mark) → Starts ms L → T (differs m ms) → Ahead v (Fits m) → RuleAt (seq f L) (seq (one m) (seq g L)) (λ p. (x.some p.0 p.1.0, p.1.1)) v
@@ -37,16 +44,10 @@ module _ {A B C : Type 0} {m : Mark} {f : Sym A} {g : Sym B} (L : Sym C) (x : Op
   pub unseen : {v : Word} → (Ahead v (Fits m) → ⊥) → RuleAt (seq f L) L (λ l. (x.none, l)) v
   unseen {v = v} n = record { from = λ l k. x.nothing (spell L l k); to = λ p k a. go p.0 p.1 k (x.cases p.0) a }
     where
-      no : (u : Word) (s : Span) (y w : Word) → (Ahead u (Fits m) → ⊥) → Alike u w → w ≡ event m s ∷ y → ⊥
-      no [] s y w n i e = nil_cons (sym (i.none refl) ∙ e)
-      no (d ∷ u) s y w n i e =
-          let z = i.first d u refl in
-          n (record { first = d; others = u; front = refl; so = (s, heads (sym z.1 ∙ e)) })
-
       go : (a : A) (l : C) (k : Word) → (a ≡ x.none) ⊎ ((s : Span) × (b : B) × (a ≡ x.some s b)) → Alike v (spell f a (spell L l k)) → (b : C) × (spell f a (spell L l k) ≡ spell L b k)
       go a l k (inl e) i = (l, ap (λ y. spell f y (spell L l k)) e ∙ x.nothing (spell L l k))
       go a l k (inr q) i =
-          absurd (no v q.0 (spell g q.1 (spell L l k)) _ n i (ap (λ y. spell f y (spell L l k)) q.2 ∙ x.something q.0 q.1 (spell L l k)))
+          absurd (not_ahead m v q.0 (spell g q.1 (spell L l k)) _ n i (ap (λ y. spell f y (spell L l k)) q.2 ∙ x.something q.0 q.1 (spell L l k)))
 
 -- (COMMA I)*
 pub items : Optional (mark.Token COMMA) (symbol spell-Is) (seq (symbol spell-I) (symbol spell-Is))

@@ -1,5 +1,5 @@
 -- Reading step by step.
-use Rattle.std.proofs.Common.{◌≡◌, ℕ, ◌+◌, List, Float, Bool, true, false, cond, [], IsErrAnd, Some, None, Ok, Err, Result, sym, refl, ap, ◌∙◌, subst, arith}
+use Rattle.std.proofs.Common.{length, ◌≡◌, ℕ, ◌+◌, List, Float, Bool, true, false, cond, [], IsErrAnd, Some, None, Ok, Err, Result, sym, refl, ap, ◌∙◌, subst, arith}
 use Rattle.refusal.specs.declared.refusal.Refusal.{Refusal}
 use Rattle.tree.proofs.Pendings.{leaf_pending_at}
 use Rattle.tree.specs.Labels.{slot_of}
@@ -23,9 +23,9 @@ use Rattle.reader.specs.declared.mark.Mark.{Mark}
 use Rattle.reader.specs.declared.reader.Reader.{Reader}
 use Rattle.reader.specs.Symbols.{Sym, Viable, Short}
 use Rattle.reader.specs.Symbols.Sym.{one, seq}
-use Rattle.reader.specs.Contract.{conf, state_of, Kept, Read, Fresh, Failed, Parses, There, Takes, plain, settles}
+use Rattle.reader.specs.Contract.{Conf, conf, state_of, Kept, Read, Fresh, Failed, Parses, There, Takes, Saw, plain, settles}
 use Rattle.reader.proofs.Takes.{once_one, short_one, kept_trans, failed, took_read, token_read, token_refused}
-use Rattle.reader.proofs.Within.{Within, start, passed, broken, Ends, ends_once, read_less, last_grows}
+use Rattle.reader.proofs.Within.{Within, start, passed, broken, moved, by_rule_at, RuleAt, Ends, ends_once, read_less, last_grows}
 use Rattle.builder.specs.Builds.{Spent, Builds}
 
 -- a word of N was begun at p and o; we are at p₁ and o₁ with n slots to spare, and M is left to read, whose value gives N's
@@ -139,7 +139,7 @@ module _ {A B : Type 0} {h n : ℕ} {N : Sym A} {M : Sym B} {p p₁ p₂ : Reade
 
 module _ {A Y Z : Type 0} {h n : ℕ} {N : Sym A} {κ : Span → A} {p p₁ p₂ : Reader} {o o₁ : Placer} {At : Z → Span → Type 0} {Post : A → Y → Type 0} where
   -- the last event is taken, or not
-  pub last_ok : {y : Y} {z : Z} (m : Mark) → plain m ≡ true → Begun h n N (one m) κ p o p₁ o₁ → Takes m At p₁ p₂ (Ok z) → ((s : Span) → Post (κ s) y) → Builds (settles m) h N Post p o p₂ o₁ (Ok y)
+  pub last_ok : {y : Y} {z : Z} (m : Mark) → plain m ≡ true → Begun h n N (one m) κ p o p₁ o₁ → Takes m At p₁ p₂ (Ok z) → ((s : Span) → At z s → Post (κ s) y) → Builds (settles m) h N Post p o p₂ o₁ (Ok y)
   last_ok m q b t post =
       let x = t.outcome in
       let w = took_read m (settles m) x.0 p₁ p₂ q refl x.2 in
@@ -153,7 +153,7 @@ module _ {A Y Z : Type 0} {h n : ℕ} {N : Sym A} {κ : Span → A} {p p₁ p₂
                     value = κ x.0;
                     read = b.within.reads (settles m) x.0 (conf p₂) w;
                     fresh = fresh_if (settles m) p₂ x.2.fresh;
-                    post = (one_left _ (read_spent (short_one m) w b.spent), post x.0);
+                    post = (one_left _ (read_spent (short_one m) w b.spent), post x.0 x.1);
                   };
             };
       }
@@ -167,8 +167,8 @@ module _ {A Y Z : Type 0} {h n : ℕ} {N : Sym A} {κ : Span → A} {p p₁ p₂
       stopped b.lent (kept_trans b.kept t.kept) (fails b.within (failed _ _ p₁ p₂ t.outcome)) r i
 
 -- the last event, whose answer is the production's
-pub last_one : {A Y : Type 0} {h n : ℕ} {N : Sym A} {κ : Span → A} {p p₁ p₂ : Reader} {o o₁ : Placer} {At : Y → Span → Type 0} {Post : A → Y → Type 0} (m : Mark) (r : Result Y Refusal) → plain m ≡ true → Begun h n N (one m) κ p o p₁ o₁ → Takes m At p₁ p₂ r → ((s : Span) (y : Y) → Post (κ s) y) → Builds (settles m) h N Post p o p₂ o₁ r
-last_one m (Ok y) q b t post = last_ok m q b t (λ s. post s y)
+pub last_one : {A Y : Type 0} {h n : ℕ} {N : Sym A} {κ : Span → A} {p p₁ p₂ : Reader} {o o₁ : Placer} {At : Y → Span → Type 0} {Post : A → Y → Type 0} (m : Mark) (r : Result Y Refusal) → plain m ≡ true → Begun h n N (one m) κ p o p₁ o₁ → Takes m At p₁ p₂ r → ((s : Span) (y : Y) → At y s → Post (κ s) y) → Builds (settles m) h N Post p o p₂ o₁ r
+last_one m (Ok y) q b t post = last_ok m q b t (λ s a. post s y a)
 last_one m (Err e) q b t post = last_err m b t (Err e) refl
 
 -- a name that ends a production
@@ -219,3 +219,20 @@ regexp_made x s source {m = m} {root = root} e f =
 pub integer_made : (x : Integer) (s : Span) (source : List ℕ) {m : Memory} {root : Slot} → Ok x ≡ integer_of source s → root ≡ slot_of (integer_label x s) 0 0 0 → Pending (integer_tree (integer_of source s) s) m root m
 integer_made x s source {m = m} {root = root} e f =
     subst (λ r. Pending (integer_tree r s) m root m) e (leaf_pending_at (integer_label x s) m root refl f)
+
+-- by a rule, and after a look
+pub ruled : {A B C : Type 0} {h n : ℕ} {N : Sym A} {M : Sym B} {M' : Sym C} {κ : B → A} {into : C → B} {p p₁ : Reader} {o o₁ : Placer} → RuleAt M M' into (conf p₁).rest → Begun h n N M κ p o p₁ o₁ → Begun h n N M' (λ c. κ (into c)) p o p₁ o₁
+ruled l b = record { lent = b.lent; kept = b.kept; within = by_rule_at l b.within; spent = b.spent }
+
+pub looked : {A B : Type 0} {h n : ℕ} {N : Sym A} {M : Sym B} {κ : B → A} {p p₁ p₂ : Reader} {o o₁ : Placer} {m : Mark} {b : Bool} → Saw m p₁ p₂ b → Begun h n N M κ p o p₁ o₁ → Begun h n N M κ p o p₂ o₁
+looked w b =
+    record {
+      lent = b.lent;
+      kept = kept_trans b.kept w.kept;
+      within = moved b.within w.same;
+      spent =
+          record {
+            count = omega (arith, b.spent.count, ap (λ (c : Conf). length c.rest) w.same);
+            place = λ l. omega (arith, b.spent.place l, ap (λ (c : Conf). c.state.last) w.same);
+          };
+    }

@@ -19,4 +19,4 @@ pub returns : goal.returns
 returns c =
     let e = of_source float_of c.in_ok-span.span c.expect.ensures.kept c.in_ok-float.ensures.value in
     last_one (End TERM) _ refl (rooted (literal_ok FLOAT_LIT (float_refusal _ c.in_ok-span.span _ e) (begun 0 _ _ _) c.in_ok-span.ensures)) c.end.ensures
-    (λ s y. float_made c.in_ok-float.float c.in_ok-span.span _ e c.float_slot-out.ensures)
+    (λ s y a. float_made c.in_ok-float.float c.in_ok-span.span _ e c.float_slot-out.ensures)

@@ -25,4 +25,4 @@ pub returns : goal.returns
 returns c =
     let e = of_source integer_of c.in_ok-span.span c.expect.ensures.kept c.in_ok-integer.ensures in
     last_ok (End TERM) refl (rooted (literal_ok INTEGER_LIT (integer_refusal _ c.in_ok-span.span _ e) (begun 0 _ _ _) c.in_ok-span.ensures)) c.in_ok-end.ensures
-    (λ s. (sym e, integer_made c.in_ok-integer.integer c.in_ok-span.span _ e c.integer_slot-out.ensures))
+    (λ s a. (sym e, integer_made c.in_ok-integer.integer c.in_ok-span.span _ e c.integer_slot-out.ensures))

@@ -12,4 +12,4 @@ returns-in_err-span c =
 pub returns : goal.returns
 returns c =
     last_one (End c.args.close) _ refl (rooted (expect_ok c.args.kind c.requires (begun 0 _ _ _) c.in_ok-span.ensures)) c.end.ensures
-    (λ s y. leaf_pending_at _ _ _ refl c.new-out.ensures)
+    (λ s y a. leaf_pending_at _ _ _ refl c.new-out.ensures)

@@ -19,4 +19,4 @@ pub returns : goal.returns
 returns c =
     let e = of_source regexp_of c.in_ok-span.span c.expect.ensures.kept c.in_ok-regexp.ensures in
     last_one (End TERM) _ refl (rooted (literal_ok REGEXP (regexp_refusal _ c.in_ok-span.span _ e) (begun 0 _ _ _) c.in_ok-span.ensures)) c.end.ensures
-    (λ s y. regexp_made c.in_ok-regexp.regexp c.in_ok-span.span _ e c.regexp_slot-out.ensures)
+    (λ s y a. regexp_made c.in_ok-regexp.regexp c.in_ok-span.span _ e c.regexp_slot-out.ensures)
