@@ -10,7 +10,7 @@ use syntax::Span;
 use tree::{Aside, NodeKind, Placer, Slot};
 
 // A node with a name.
-pub fn named(kind: NodeKind, span: Span, name: Span) -> Slot
+pub(crate) fn named(kind: NodeKind, span: Span, name: Span) -> Slot
     ensures { result ≡ slot_of (named_label kind span name) 0 0 0 }
 {
     Slot {
@@ -20,7 +20,7 @@ pub fn named(kind: NodeKind, span: Span, name: Span) -> Slot
 }
 
 // The root becomes the next child of `parent`, which is the root then and reaches to its end.
-pub fn further(parent: Aside, out: &mut Placer)
+pub(crate) fn further(parent: Aside, out: &mut Placer)
     ensures { Furthers parent out.old out.new }
 {
     let span = parent.root.span.combine(&out.root.span);
@@ -29,7 +29,7 @@ pub fn further(parent: Aside, out: &mut Placer)
 }
 
 // A node that has nothing below it yet becomes the root, above the root, and reaches to its end.
-pub fn above(parent: Slot, out: &mut Placer)
+pub(crate) fn above(parent: Slot, out: &mut Placer)
     ensures { Raises parent out.old out.new }
 {
     further(
@@ -42,14 +42,14 @@ pub fn above(parent: Slot, out: &mut Placer)
 }
 
 // A new node above the root.
-pub fn raise(kind: NodeKind, span: Span, out: &mut Placer)
+pub(crate) fn raise(kind: NodeKind, span: Span, out: &mut Placer)
     ensures { Changes 1 (unary kind span) out.old out.new }
 {
     above(Slot::new(kind, span), out);
 }
 
 // Makes the root the node that an operator's right side becomes a child of.
-pub fn open(op: SyntaxKind, out: &mut Placer)
+pub(crate) fn open(op: SyntaxKind, out: &mut Placer)
     ensures { Changes 1 (opened_by op) out.old out.new }
 {
     if !goes_on(op, out.root.kind) {

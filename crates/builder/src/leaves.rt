@@ -25,7 +25,7 @@ use syntax::Span;
 use tree::{CASE_INSENSITIVE, DOT_MATCHES_NEW_LINE, NodeKind, Placer, Slot, UNSIGNED};
 
 // A keyword that is a node, and the end of the node around it.
-pub fn keyword(
+pub(crate) fn keyword(
     kind: SyntaxKind,
     node: NodeKind,
     close: SyntaxKind,
@@ -41,7 +41,7 @@ pub fn keyword(
 }
 
 // A name that is a node.
-pub fn identifier(input: &mut Reader, out: &mut Placer) -> Result<(), Refusal>
+pub(crate) fn identifier(input: &mut Reader, out: &mut Placer) -> Result<(), Refusal>
     ensures { Builds true 0 (one (TokenOf IDENT)) (λ s y. Makes (name_leaf Ident s) out.old out.new) input.old out.old input.new out.new result }
 {
     let name = input.identifier(SyntaxKind::IDENT)?;
@@ -60,7 +60,7 @@ fn float_slot(float: f64, span: Span) -> Slot
 }
 
 // FLOAT_LIT, and the end of its term.
-pub fn float_term(input: &mut Reader, out: &mut Placer) -> Result<(), Refusal>
+pub(crate) fn float_term(input: &mut Reader, out: &mut Placer) -> Result<(), Refusal>
     ensures { Builds false 0 (seq (one (TokenOf FLOAT_LIT)) (one (EndOf TERM))) (λ a y. Makes (float_tree (float_of input.old.source.now a.0) a.0) out.old out.new) input.old out.old input.new out.new result }
 {
     let span = input.expect(SyntaxKind::FLOAT_LIT)?;
@@ -81,7 +81,7 @@ fn integer_slot(integer: Integer, span: Span) -> Slot
 }
 
 // INTEGER_LIT, and the end of its term.
-pub fn integer_term(input: &mut Reader, out: &mut Placer) -> Result<Integer, Refusal>
+pub(crate) fn integer_term(input: &mut Reader, out: &mut Placer) -> Result<Integer, Refusal>
     ensures { Builds false 0 (seq (one (TokenOf INTEGER_LIT)) (one (EndOf TERM))) (λ a y. (integer_of input.old.source.now a.0 ≡ OkOf y) × Makes (integer_tree (integer_of input.old.source.now a.0) a.0) out.old out.new) input.old out.old input.new out.new result }
 {
     let span = input.expect(SyntaxKind::INTEGER_LIT)?;
@@ -112,7 +112,7 @@ fn regexp_slot(regexp: Regexp, span: Span) -> Slot
 }
 
 // REGEXP, and the end of its term.
-pub fn regexp_term(input: &mut Reader, out: &mut Placer) -> Result<(), Refusal>
+pub(crate) fn regexp_term(input: &mut Reader, out: &mut Placer) -> Result<(), Refusal>
     ensures { Builds false 0 (seq (one (TokenOf REGEXP)) (one (EndOf TERM))) (λ a y. Makes (regexp_tree (regexp_of input.old.source.now a.0) a.0) out.old out.new) input.old out.old input.new out.new result }
 {
     let span = input.expect(SyntaxKind::REGEXP)?;
