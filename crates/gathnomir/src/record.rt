@@ -1,7 +1,7 @@
 use crate::shown::Shown;
 use crate::value::Value;
 use source::{EventSource, Packed};
-use std::alloc::Global;
+use std::alloc::{AllocError, Global};
 use std::io;
 use std::io::Write;
 use std::num::Saturating;
@@ -12,8 +12,8 @@ pub fn print<W: Write + Drop>(heap: Global, out: W, source: &[u8], bytes: &[u8])
     let mut packed = Packed::new(bytes);
     let mut record = Record {
         out,
+        heap,
         source,
-        text: Vec::new(heap),
         open: Vec::new(heap),
         totals: Totals::default(),
     };
@@ -36,9 +36,8 @@ pub fn print<W: Write + Drop>(heap: Global, out: W, source: &[u8], bytes: &[u8])
 #[derive(Drop)]
 struct Record<'a, W> {
     out: W,
+    heap: Global,
     source: &'a [u8],
-    // Room for what a string stands for, as long as its token.
-    text: Vec<u8>,
     // The nodes that are open, the innermost last.
     open: Vec<SyntaxKind>,
     totals: Totals,
@@ -108,8 +107,10 @@ impl<W: Write + Drop> Record<'_, W> {
         self.indent()?;
         write!(self.out, "token {kind} {:?}", span.range())?;
         if let Some(text) = self.source.get(span.range()) {
+            // First, so that nothing of the text is said where there is no room.
+            let mut room = self.room(kind, span)?;
             write!(self.out, " {}", Shown(text))?;
-            self.value(kind, span)?;
+            self.value(kind, span, room.as_mut_slice())?;
             self.cover(span);
         }
         if trivia {
@@ -120,12 +121,18 @@ impl<W: Write + Drop> Record<'_, W> {
         writeln!(self.out, "{note}")
     }
 
+    // Room for what a string stands for, as long as its token.
+    fn room(&self, kind: SyntaxKind, span: Span) -> Result<Vec<u8>, AllocError> {
+        let length = match kind {
+            SyntaxKind::STRING_LIT => span.len(),
+            _ => 0,
+        };
+        vec![in self.heap; 0; length]
+    }
+
     // Prints what a name or a literal stands for, or why it is refused.
-    fn value(&mut self, kind: SyntaxKind, span: Span) -> io::Result<()> {
-        if kind == SyntaxKind::STRING_LIT {
-            self.text.resize(span.len(), 0)?;
-        }
-        match Value::of(kind, self.source, span, self.text.as_mut_slice()) {
+    fn value(&mut self, kind: SyntaxKind, span: Span, room: &mut [u8]) -> io::Result<()> {
+        match Value::of(kind, self.source, span, room) {
             Ok(None) => Ok(()),
             Ok(Some(value)) => write!(self.out, " = {value}"),
             Err(refusal) => {

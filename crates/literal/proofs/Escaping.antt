@@ -1,6 +1,6 @@
 -- The unescaper's loop reads what the text stands for.
-use Rattle.std.proofs.Common.{◌≡◌, ℕ, ◌+◌, ◌-◌, ◌*◌, ◌^◌, ◌<◌, ◌≤◌, List, [], ◌∷◌, ◌++◌, length, get_or, drop, set, Some, None, Ok, Err, Option, Result, sym, refl, ap, ◌∙◌, subst, ⊎_elim, append_assoc, append-nil, add-one, arith, length-append, length-drop, drop-cons}
-use Rattle.std.proofs.lemmas.List.{drop_all, set_past}
+use Rattle.std.proofs.Common.{◌≡◌, ℕ, ◌+◌, ◌-◌, ◌*◌, ◌^◌, ◌<◌, ◌≤◌, min, List, [], ◌∷◌, ◌++◌, length, get_or, drop, set, Some, None, Ok, Err, Option, Result, sym, refl, ap, ◌∙◌, subst, ⊎_elim, append_assoc, append-nil, add-one, arith, length-append, length-drop, drop-cons}
+use Rattle.std.proofs.lemmas.List.{drop_all}
 use Rattle.std.proofs.lemmas.Bool.{cases_lt}
 use Rattle.literal.specs.declared.unescape.State.{State}
 use Rattle.literal.specs.declared.unescape.State.TheVariants.{Plain, AfterBackslash, AfterX, AfterDigit}
@@ -8,7 +8,7 @@ use Rattle.literal.specs.declared.unescape.Step.TheVariants.{Emit, Go}
 use Rattle.literal.specs.Escapes.{simple, hex_of, first, Reading, put, reading_from, reading}
 use Rattle.literal.specs.Machine.{step_of, held_by, Small, count_of}
 use Rattle.lent.specs.Lists.{counted, overlay}
-use Rattle.lent.proofs.Overlays.{overlay-++, length_overlay}
+use Rattle.lent.proofs.Overlays.{overlay-++}
 use Rattle.std.specs.Option.{option_map}
 use Rattle.literal.specs.Memory.{counted_all}
 use Rattle.literal.specs.Texts.{or_else}
@@ -95,7 +95,7 @@ abbrev after : List ℕ → Reading → Reading
 after ds r = record { bytes = ds ++ r.bytes; stop = r.stop }
 
 -- what was read of a text, and what is left
-pub record Progress (text start : List ℕ) (from : ℕ) (state : State) (n : ℕ) (out : List ℕ) (used i : ℕ) : Type 0 where
+pub record Progress (text start : List ℕ) (from : ℕ) (state : State) (n : ℕ) (out : List ℕ) (i : ℕ) : Type 0 where
   pub ds : List ℕ
   pub held : List ℕ
   pub holds : Held state held
@@ -103,15 +103,14 @@ pub record Progress (text start : List ℕ) (from : ℕ) (state : State) (n : �
   pub count : n ≡ length ds
   pub few : n + length held ≤ i
   pub memory : out ≡ overlay start from ds
-  pub counts : used ≡ counted_all from ds
   pub left : reading text ≡ after ds (reading_from 0 (held ++ drop i text))
 
 -- what is left, with its first byte
 turn : (text : List ℕ) (i : ℕ) → i < length text → drop i text ≡ get_or text i 0 ∷ drop (i + 1) text
 turn text i h = drop-cons text i 0 h ∙ ap (λ j. get_or text i 0 ∷ drop j text) (sym (add-one i))
 
-pub went : (text start : List ℕ) (from : ℕ) (s t : State) (n : ℕ) (out : List ℕ) (used i : ℕ) → i < length text → Progress text start from s n out used i → Some (Go t) ≡ step_of s (get_or text i 0) → Small t → Progress text start from t n out used (i + 1)
-went text start from s t n out used i h p g z =
+pub went : (text start : List ℕ) (from : ℕ) (s t : State) (n : ℕ) (out : List ℕ) (i : ℕ) → i < length text → Progress text start from s n out i → Some (Go t) ≡ step_of s (get_or text i 0) → Small t → Progress text start from t n out (i + 1)
+went text start from s t n out i h p g z =
     let b = get_or text i 0 in
     record {
       ds = p.ds;
@@ -121,41 +120,22 @@ went text start from s t n out used i h p g z =
       count = p.count;
       few = omega (arith, p.few, length-append p.held (b ∷ []));
       memory = p.memory;
-      counts = p.counts;
       left = p.left ∙ ap (λ l. after p.ds (reading_from 0 (p.held ++ l))) (turn text i h) ∙ ap (λ l. after p.ds (reading_from 0 l)) (sym (append_assoc p.held (b ∷ []) (drop (i + 1) text)));
     }
 
-counted_more : (n : ℕ) (ds : List ℕ) (d : ℕ) → counted_all n (ds ++ (d ∷ [])) ≡ counted (counted_all n ds)
-counted_more n [] d = refl
-counted_more n (x ∷ ds) d = counted_more (counted n) ds d
+-- a counter that has counted each item is the sum, up to its largest value
+counted_top : (n : ℕ) (ds : List ℕ) → 2 ^ 64 - 1 ≤ n → n < 2 ^ 64 → counted_all n ds ≡ 2 ^ 64 - 1
+counted_top n [] h l = omega (arith, h, l)
+counted_top n (x ∷ ds) h l = counted_top (counted n) ds (omega (arith, h)) (omega (arith, l))
 
--- a counter that does not come to its largest value, and one that does
-counted_room : (n : ℕ) (ds : List ℕ) → n + length ds < 2 ^ 64 → counted_all n ds ≡ n + length ds
-counted_room n [] h = omega arith
-counted_room n (x ∷ ds) h = grind (arith, counted_room (n + 1) ds)
+pub counted_sum : (n : ℕ) (ds : List ℕ) → n < 2 ^ 64 → counted_all n ds ≡ min (n + length ds) (2 ^ 64 - 1)
+counted_sum n [] h = omega (arith, h)
+counted_sum n (x ∷ ds) h = ⊎_elim
+    (λ (l : n < 2 ^ 64 - 1). let e : counted n ≡ n + 1 = omega arith in ap (λ k. counted_all k ds) e ∙ counted_sum (n + 1) ds (omega (arith, l)) ∙ ap (λ k. min k (2 ^ 64 - 1)) (omega arith))
+    (λ (l : 2 ^ 64 - 1 ≤ n). counted_top n (x ∷ ds) l h ∙ omega (arith, l)) (cases_lt n (2 ^ 64 - 1))
 
-counted_top : (n : ℕ) (ds : List ℕ) → 2 ^ 64 - 1 ≤ n → 2 ^ 64 - 1 ≤ counted_all n ds
-counted_top n [] h = h
-counted_top n (x ∷ ds) h = counted_top (counted n) ds (omega (arith, h))
-
-counted_full : (n : ℕ) (ds : List ℕ) → 2 ^ 64 ≤ n + length ds → 2 ^ 64 - 1 ≤ counted_all n ds
-counted_full n [] h = omega (arith, h)
-counted_full n (x ∷ ds) h = ⊎_elim
-    (λ (l : n < 2 ^ 64 - 1). let e : counted n ≡ n + 1 = omega arith in subst (λ k. 2 ^ 64 - 1 ≤ counted_all k ds) (sym e) (counted_full (n + 1) ds (omega (arith, h))))
-    (λ (l : 2 ^ 64 - 1 ≤ n). counted_top n (x ∷ ds) l) (cases_lt n (2 ^ 64 - 1))
-
--- a byte put behind what was put, where there is room
-put_more : (start out : List ℕ) (from used : ℕ) (ds : List ℕ) (d : ℕ) → used ≡ counted_all from ds → length out < 2 ^ 64 → out ≡ overlay start from ds → set out used d ≡ overlay start from (ds ++ (d ∷ []))
-put_more start out from used ds d e l f = ⊎_elim room none (cases_lt (from + length ds) (2 ^ 64)) ∙ ap (λ x. set x (from + length ds) d) f ∙ sym (overlay-++ start from ds (d ∷ []))
-  where
-    room : from + length ds < 2 ^ 64 → set out used d ≡ set out (from + length ds) d
-    room h = ap (λ k. set out k d) (e ∙ counted_room from ds h)
-
-    none : 2 ^ 64 ≤ from + length ds → set out used d ≡ set out (from + length ds) d
-    none h = set_past out used d (omega (arith, e, counted_full from ds h)) ∙ sym (set_past out (from + length ds) d (omega arith))
-
-pub emitted : (text start : List ℕ) (from : ℕ) (s : State) (n d : ℕ) (out out' : List ℕ) (used used' : ℕ) (i : ℕ) → i < length text → Progress text start from s n out used i → Some (Emit d) ≡ step_of s (get_or text i 0) → length out < 2 ^ 64 → out' ≡ set out used d → used' ≡ counted used → Progress text start from Plain (n + 1) out' used' (i + 1)
-emitted text start from s n d out out' used used' i h p g l m k =
+pub emitted : (text start : List ℕ) (from : ℕ) (s : State) (n d : ℕ) (out out' : List ℕ) (i : ℕ) → i < length text → Progress text start from s n out i → Some (Emit d) ≡ step_of s (get_or text i 0) → out' ≡ set out (from + n) d → Progress text start from Plain (n + 1) out' (i + 1)
+emitted text start from s n d out out' i h p g m =
     let b = get_or text i 0 in
     let r = reading_from 0 (drop (i + 1) text) in
     record {
@@ -165,56 +145,51 @@ emitted text start from s n d out out' used used' i h p g l m k =
       small = tt;
       count = omega (arith, p.count, length-append p.ds (d ∷ []));
       few = omega (arith, p.few);
-      memory = m ∙ put_more start out from used p.ds d p.counts l p.memory;
-      counts = k ∙ ap counted p.counts ∙ sym (counted_more from p.ds d);
+      memory = m ∙ ap (λ k. set out (from + k) d) p.count ∙ ap (λ x. set x (from + length p.ds) d) p.memory ∙ sym (overlay-++ start from p.ds (d ∷ []));
       left = p.left ∙ ap (λ l. after p.ds (reading_from 0 (p.held ++ l))) (turn text i h) ∙ ap (after p.ds) (emits s b d p.held (drop (i + 1) text) p.holds g)
           ∙ ap (λ l. record { bytes = l; stop = r.stop }) (sym (append_assoc p.ds (d ∷ []) r.bytes));
     }
 
 -- ---- how it ends
 
-pub record Ended (text start : List ℕ) (from : ℕ) (out : List ℕ) (used : ℕ) (r : Result ℕ ℕ) : Type 0 where
+pub record Ended (text start : List ℕ) (from : ℕ) (out : List ℕ) (n : ℕ) (r : Result ℕ ℕ) : Type 0 where
   pub value : r ≡ count_of text
   pub memory : out ≡ overlay start from (reading text).bytes
-  pub counts : used ≡ counted_all from (reading text).bytes
+  pub count : n ≡ length (reading text).bytes
 
 -- the reading is known
-known : (text start : List ℕ) (from : ℕ) (out : List ℕ) (used : ℕ) (ds : List ℕ) (stop : Option (List ℕ)) → reading text ≡ record { bytes = ds; stop = stop } → out ≡ overlay start from ds → used ≡ counted_all from ds → Ended text start from out used (or_else stop (λ rest. Err (length text - length rest)) (Ok (length ds)))
-known text start from out used ds stop e m k = record {
+known : (text start : List ℕ) (from : ℕ) (out : List ℕ) (n : ℕ) (ds : List ℕ) (stop : Option (List ℕ)) → reading text ≡ record { bytes = ds; stop = stop } → out ≡ overlay start from ds → n ≡ length ds → Ended text start from out n (or_else stop (λ rest. Err (length text - length rest)) (Ok (length ds)))
+known text start from out n ds stop e m k = record {
   value = sym (ap (λ (r : Reading). or_else r.stop (λ rest. Err (length text - length rest)) (Ok (length r.bytes))) e);
   memory = m ∙ sym (ap (λ (r : Reading). overlay start from r.bytes) e);
-  counts = k ∙ sym (ap (λ (r : Reading). counted_all from r.bytes) e);
+  count = k ∙ sym (ap (λ (r : Reading). length r.bytes) e);
 }
 
 behind_none : (ds h : List ℕ) → after ds (stopped h) ≡ record { bytes = ds; stop = Some h }
 behind_none ds h = ap (λ l. record { bytes = l; stop = Some h }) (append-nil ds)
 
-stopped_at : (text start : List ℕ) (from n : ℕ) (out : List ℕ) (used : ℕ) (s : State) (i at : ℕ) (p : Progress text start from s n out used i) → i ≤ length text → at ≡ i - held_by s → reading_from 0 (p.held ++ drop i text) ≡ stopped (p.held ++ drop i text) → Ended text start from out used (Err at)
-stopped_at text start from n out used s i at p h e w =
+stopped_at : (text start : List ℕ) (from n : ℕ) (out : List ℕ) (s : State) (i at : ℕ) (p : Progress text start from s n out i) → i ≤ length text → at ≡ i - held_by s → reading_from 0 (p.held ++ drop i text) ≡ stopped (p.held ++ drop i text) → Ended text start from out n (Err at)
+stopped_at text start from n out s i at p h e w =
     let rest = p.held ++ drop i text in
     let l : length text - length rest ≡ at = omega (arith, length-append p.held (drop i text), length-drop i text, held_length s p.held p.holds, p.few) in
-    subst (λ k. Ended text start from out used (Err k)) l (known text start from out used p.ds (Some rest) (p.left ∙ ap (after p.ds) w ∙ behind_none p.ds rest) p.memory p.counts)
+    subst (λ k. Ended text start from out n (Err k)) l (known text start from out n p.ds (Some rest) (p.left ∙ ap (after p.ds) w ∙ behind_none p.ds rest) p.memory p.count)
 
-pub bad_at : (text start : List ℕ) (from n : ℕ) (out : List ℕ) (used : ℕ) (s : State) (i at : ℕ) → i < length text → Progress text start from s n out used i → at ≡ i - held_by s → None ≡ step_of s (get_or text i 0) → Ended text start from out used (Err at)
-bad_at text start from n out used s i at h p e g =
-    stopped_at text start from n out used s i at p (omega arith) e
+pub bad_at : (text start : List ℕ) (from n : ℕ) (out : List ℕ) (s : State) (i at : ℕ) → i < length text → Progress text start from s n out i → at ≡ i - held_by s → None ≡ step_of s (get_or text i 0) → Ended text start from out n (Err at)
+bad_at text start from n out s i at h p e g =
+    stopped_at text start from n out s i at p (omega arith) e
     (subst (λ l. reading_from 0 (p.held ++ l) ≡ stopped (p.held ++ l)) (sym (turn text i h)) (bads s (get_or text i 0) p.held (drop (i + 1) text) p.holds g))
 
-pub cut_at : (text start : List ℕ) (from n : ℕ) (out : List ℕ) (used : ℕ) (s : State) (i at : ℕ) → length text ≡ i → Progress text start from s n out used i → at ≡ i - held_by s → (s ≡ Plain → ⊥) → Ended text start from out used (Err at)
-cut_at text start from n out used s i at h p e g =
+pub cut_at : (text start : List ℕ) (from n : ℕ) (out : List ℕ) (s : State) (i at : ℕ) → length text ≡ i → Progress text start from s n out i → at ≡ i - held_by s → (s ≡ Plain → ⊥) → Ended text start from out n (Err at)
+cut_at text start from n out s i at h p e g =
     let d = drop_all i text (omega arith) in
-    stopped_at text start from n out used s i at p (omega arith) e
+    stopped_at text start from n out s i at p (omega arith) e
     (subst (λ l. reading_from 0 (p.held ++ l) ≡ stopped (p.held ++ l)) (sym d) (subst (λ l. reading_from 0 l ≡ stopped l) (sym (append-nil p.held)) (unended s p.held p.holds g)))
 
-pub whole : (text start : List ℕ) (from n : ℕ) (out : List ℕ) (used : ℕ) (s : State) (i : ℕ) → length text ≤ i → Progress text start from s n out used i → s ≡ Plain → Ended text start from out used (Ok n)
+pub whole : (text start : List ℕ) (from n : ℕ) (out : List ℕ) (s : State) (i : ℕ) → length text ≤ i → Progress text start from s n out i → s ≡ Plain → Ended text start from out n (Ok n)
 unfolding reading_from
-whole text start from n out used s i h p e =
+whole text start from n out s i h p e =
     let d = drop_all i text h in
     let q : p.held ≡ [] = subst (λ t. Held t p.held) e p.holds in
     let w : reading text ≡ record { bytes = p.ds; stop = None } =
     p.left ∙ ap (λ l. after p.ds (reading_from 0 (p.held ++ l))) d ∙ ap (λ l. after p.ds (reading_from 0 (l ++ []))) q ∙ ap (λ l. record { bytes = l; stop = None }) (append-nil p.ds) in
-    subst (λ k. Ended text start from out used (Ok k)) (sym p.count) (known text start from out used p.ds None w p.memory p.counts)
-
--- the memory keeps its length
-pub within : {text start : List ℕ} {from : ℕ} {s : State} {n : ℕ} {out : List ℕ} {used i : ℕ} → Progress text start from s n out used i → length start < 2 ^ 64 → length out < 2 ^ 64
-within {text} {start} {from} p h = omega (arith, h, ap length p.memory, length_overlay start from p.ds)
+    subst (λ k. Ended text start from out n (Ok k)) (sym p.count) (known text start from out n p.ds None w p.memory p.count)

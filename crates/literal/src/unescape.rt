@@ -1,4 +1,5 @@
-ghost use Rattle.std.specs.Prelude.{◌≡◌, ◌<◌, IfSome};
+ghost use Rattle.std.specs.Prelude.{◌≡◌, ◌+◌, ◌<◌, length, slice_set, IfSome};
+ghost use Rattle.lent.specs.Lists.{overlay};
 ghost use Rattle.literal.specs.Escapes.{hex_of, reading};
 ghost use Rattle.literal.specs.Machine.{step_of, held_by, Small, SmallStep, count_of};
 ghost use Rattle.literal.specs.Memory.{Puts};
@@ -64,32 +65,51 @@ impl State {
     }
 }
 
-// Puts what the text stands for behind what is used of `out`, as far as it fits and up to a bad escape.
-// Answers how many bytes it stands for, or where the bad escape begins.
-pub(crate) fn unescape(text: &[u8], out: &mut Lent<u8>) -> Result<usize, usize>
-    ensures value { result ≡ count_of text.now }
-    ensures memory { Puts (reading text.now).bytes out.old out.new }
+// Writes a byte so many places behind a place, if there is room.
+fn write(items: &mut [u8], from: usize, behind: usize, byte: u8)
+    ensures { items.new ≡ slice_set items.old (from + behind) byte }
 {
-    // Memory is no longer than its counter can count.
-    prove!(out.items.len() <= usize::MAX);
+    if behind < items.len().saturating_sub(from) {
+        items[from + behind] = byte;
+    }
+}
+
+// Writes what the text stands for from a place on, as far as it fits and up to a bad escape.
+// Answers how many bytes it stands for, or where the bad escape begins; and how many were decoded, a number that
+// cannot stop, since a counter that stops has its price at each byte.
+fn decode(text: &[u8], items: &mut [u8], from: usize) -> (Result<usize, usize>, usize)
+    ensures value { result.0 ≡ count_of text.now }
+    ensures items { items.new ≡ overlay items.old from (reading text.now).bytes }
+    ensures count { result.1 ≡ length (reading text.now).bytes }
+{
     let mut state = State::Plain;
     let mut n = 0;
     for (i, b) in text.iter().enumerate() {
         let Some(step) = state.step(*b) else {
-            return Err(i - state.held());
+            return (Err(i - state.held()), n);
         };
         state = match step {
             Step::Go(next) => next,
             Step::Emit(byte) => {
-                out.push(byte);
-                // Not told by `out.used`, which stops at its largest value.
+                write(items, from, n, byte);
                 n += 1;
                 State::Plain
             }
         };
     }
     match state {
-        State::Plain => Ok(n),
-        _ => Err(text.len() - state.held()),
+        State::Plain => (Ok(n), n),
+        _ => (Err(text.len() - state.held()), n),
     }
+}
+
+// Puts what the text stands for behind what is used of `out`, as far as it fits and up to a bad escape.
+// Answers how many bytes it stands for, or where the bad escape begins.
+pub(crate) fn unescape(text: &[u8], out: &mut Lent<u8>) -> Result<usize, usize>
+    ensures value { result ≡ count_of text.now }
+    ensures memory { Puts (reading text.now).bytes out.old out.new }
+{
+    let (result, n) = decode(text, out.items, out.used);
+    out.used = out.used.saturating_add(n);
+    result
 }

@@ -25,6 +25,7 @@ pub fn merging(kind: SyntaxKind) -> Option<NodeKind>
 }
 
 // Whether an operator goes on with a left side of a kind, so that its right side becomes a further operand there.
+#[tactic(auto, using(crate::proofs::Equal::option_is))]
 pub fn goes_on(kind: SyntaxKind, left: NodeKind) -> bool
     ensures { result ≡ is (merging_of kind) left }
 {

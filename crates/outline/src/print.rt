@@ -63,7 +63,7 @@ impl fmt::Display for Indent {
 
     fn fmt<W: fmt::Write>(&self, f: &mut fmt::Formatter<W>) -> fmt::Result {
         for _i in 0..self.0 {
-            write!(f, "  ")?;
+            f.write_str("  ")?;
         }
         Ok(())
     }

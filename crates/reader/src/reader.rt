@@ -35,6 +35,13 @@ fn is_error(event: &Event) -> bool
     matches!(event, Event::Error { .. })
 }
 
+// What stands behind so many events. A part and no `skip`, which would step over these events, at each call anew.
+fn behind(row: &[Event], at: usize) -> &[Event]
+    ensures { result.now ≡ drop at row.now }
+{
+    &row[at.min(row.len())..]
+}
+
 fn is_damaged(event: Event) -> bool
     ensures { result ≡ is_damaged event }
 {
@@ -102,11 +109,8 @@ impl<'a> Reader<'a> {
     fn errors_ahead(&self) -> usize
         ensures { result ≡ prefix_len is_error (drop self.now.at self.now.row.now) }
     {
-        self.row
-            .iter()
-            .skip(self.at)
-            .take_while(|event| is_error(event))
-            .count()
+        let rest = behind(self.row, self.at);
+        rest.iter().take_while(|event| is_error(event)).count()
     }
 
     // Passes over Error events, and shows the next event.
