@@ -20,10 +20,13 @@ use Rattle.tree.specs.Reads.Leaf.{name, string, regexp, number}
 abbrev pub is_plain : ℕ → Bool
 is_plain b = nat_le 32 b && (nat_le b 126 && (not (b == 34) && not (b == 92)))
 
--- a byte as it is, or as \x and two digits
+-- a byte as \x and two digits
+abbrev pub hexadecimal_text : ℕ → List ℕ
+hexadecimal_text b = 92 ∷ 120 ∷ digit_glyph false (b / 16) ∷ digit_glyph false (b % 16) ∷ []
+
+-- a byte as it is, or in hexadecimal
 abbrev pub byte_text : ℕ → List ℕ
-byte_text b =
-    cond (is_plain b) (b ∷ []) (92 ∷ 120 ∷ digit_glyph false (b / 16) ∷ digit_glyph false (b % 16) ∷ [])
+byte_text b = cond (is_plain b) (b ∷ []) (hexadecimal_text b)
 
 abbrev pub bytes_text : List ℕ → List ℕ
 bytes_text bytes = flat_map byte_text bytes

@@ -5,7 +5,7 @@ ghost use Rattle.outline.specs.Whole.{Whole};
 
 use crate::leaf::{Escaped, Leaf, flagged};
 use std::alloc::{AllocError, Global};
-use std::fmt;
+use std::fmt::{self, Display};
 use std::ops::Range;
 use tree::{NodeKind, OBJECT, Slot, Tree, WILDCARD, part};
 
@@ -132,14 +132,13 @@ impl Shown<'_> {
             Form::Outline => {
                 let indent = Indent(depth);
                 // The span's ends, not `{:?}` of its range, whose contract says no bytes.
-                write!(
-                    f,
-                    "{indent}{kind} {}..{}{said}{wildcard}{object}",
-                    span.start, span.end
-                )
+                write!(f, "{indent}{kind} {}..{}", span.start, span.end)?;
             }
-            Form::Line => write!(f, "{kind}{said}{wildcard}{object}"),
+            Form::Line => kind.fmt(f)?,
         }
+        said.fmt(f)?;
+        f.write_str(wildcard)?;
+        f.write_str(object)
     }
 
     // A link that does not lead where it has to.

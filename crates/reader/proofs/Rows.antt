@@ -1,5 +1,5 @@
 -- What the grammar sees of a row.
-use Rattle.std.proofs.Common.{◌≡◌, ℕ, suc, ◌+◌, ◌<◌, ◌≤◌, false, List, [], ◌∷◌, ◌++◌, length, get_or, take, drop, sym, refl, ap, ◌∙◌, add-one, one-add, arith, length-drop, take-suc, take-add, drop-drop, get_or-drop}
+use Rattle.std.proofs.Common.{◌≡◌, ℕ, zero, suc, Some, slice_get, ◌+◌, ◌<◌, ◌≤◌, false, List, [], ◌∷◌, ◌++◌, length, get_or, take, drop, sym, refl, ap, ◌∙◌, add-one, one-add, arith, length-drop, take-suc, take-add, drop-drop, get_or-drop}
 use Rattle.std.specs.List.{filter, prefix_len}
 use lib.Seq.{split_at}
 use Rattle.std.proofs.lemmas.List.{append-nil, drop_more, drop_all, take_all}
@@ -124,3 +124,9 @@ pub end_errors : (row : List Event) (i : ℕ) → length row ≤ i → length (e
 end_errors row i h =
     let t = take_all i row h in
     ap (λ r. length (entries_in r)) t ∙ sym (ap length (ap (λ r. entries_before (length (visible r)) row) t ∙ before_end row))
+
+-- where no Error event comes next, the next visible event is at hand
+pub none_ahead : (row : List Event) (i : ℕ) (e : Event) → slice_get row i ≡ Some e → Seen e → prefix_len is_error (drop i row) ≡ 0
+none_ahead [] i e s n = cc
+none_ahead (x ∷ row) zero e s n = let same : x ≡ e = cc in rw (same, n) refl
+none_ahead (x ∷ row) (suc i) e s n = none_ahead row i e s n

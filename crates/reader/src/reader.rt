@@ -117,8 +117,14 @@ impl<'a> Reader<'a> {
     fn peek(&mut self) -> Option<Event>
         ensures { Peeked self.old self.new result }
     {
-        self.at += self.errors_ahead();
-        self.row.get(self.at).copied()
+        // Mostly the next event is no Error event, and nothing has to be counted.
+        match self.row.get(self.at) {
+            Some(event) if !is_error(event) => Some(*event),
+            _ => {
+                self.at += self.errors_ahead();
+                self.row.get(self.at).copied()
+            }
+        }
     }
 
     // Whether the next event is as asked.
