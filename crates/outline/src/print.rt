@@ -112,7 +112,8 @@ impl fmt::Display for Shown<'_> {
 }
 
 impl Shown<'_> {
-    // All of a slot but its links.
+    // All of a slot but its links. Not within `tree`, whose frame stands once for each level.
+    #[inline(never)]
     fn node<W: fmt::Write>(
         &self,
         f: &mut fmt::Formatter<W>,

@@ -1,6 +1,6 @@
 -- What the grammar sees of a row.
 use Rattle.std.proofs.Common.{◌≡◌, ℕ, zero, suc, Some, slice_get, ◌+◌, ◌<◌, ◌≤◌, false, List, [], ◌∷◌, ◌++◌, length, get_or, take, drop, sym, refl, ap, ◌∙◌, add-one, one-add, arith, length-drop, take-suc, take-add, drop-drop, get_or-drop}
-use Rattle.std.specs.List.{filter, prefix_len}
+use Rattle.std.specs.List.{prefix_len}
 use lib.Seq.{split_at}
 use Rattle.std.proofs.lemmas.List.{append-nil, drop_more, drop_all, take_all}
 use Rattle.std.proofs.lemmas.List.Sums.{prefix_len_stops}
@@ -54,14 +54,6 @@ entries_seen (Error m s ∷ xs) e n = ap (λ (es : List Entry). record { number 
 entries_seen (Begin k s ∷ xs) e n = entries_seen xs e n
 entries_seen (End k s ∷ xs) e n = entries_seen xs e n
 entries_seen (Token k s ∷ xs) e n = entries_seen xs e n
-
--- how many Error events there are
-pub error_count : (xs : List Event) → length (filter is_error xs) ≡ length (entries_in xs)
-error_count [] = refl
-error_count (Error m s ∷ xs) = ap suc (error_count xs)
-error_count (Begin k s ∷ xs) = error_count xs
-error_count (End k s ∷ xs) = error_count xs
-error_count (Token k s ∷ xs) = error_count xs
 
 -- the Error events that a row begins with are not seen
 rest_seen : (xs : List Event) → visible (drop (prefix_len is_error xs) xs) ≡ visible xs
@@ -130,3 +122,22 @@ pub none_ahead : (row : List Event) (i : ℕ) (e : Event) → slice_get row i �
 none_ahead [] i e s n = cc
 none_ahead (x ∷ row) zero e s n = let same : x ≡ e = cc in rw (same, n) refl
 none_ahead (x ∷ row) (suc i) e s n = none_ahead row i e s n
+
+entries-++ : (xs ys : List Event) → length (entries_in (xs ++ ys)) ≡ length (entries_in xs) + length (entries_in ys)
+entries-++ [] ys = omega arith
+entries-++ (Error m s ∷ xs) ys = omega (arith, entries-++ xs ys)
+entries-++ (Begin k s ∷ xs) ys = entries-++ xs ys
+entries-++ (End k s ∷ xs) ys = entries-++ xs ys
+entries-++ (Token k s ∷ xs) ys = entries-++ xs ys
+
+pub entries_few : (xs : List Event) → length (entries_in xs) ≤ length xs
+entries_few [] = omega arith
+entries_few (Error m s ∷ xs) = omega (arith, entries_few xs)
+entries_few (Begin k s ∷ xs) = omega (arith, entries_few xs)
+entries_few (End k s ∷ xs) = omega (arith, entries_few xs)
+entries_few (Token k s ∷ xs) = omega (arith, entries_few xs)
+
+-- one event more
+pub entries_more : (row : List Event) (i : ℕ) (d : Event) → i < length row → length (entries_in (take (i + 1) row)) ≡ length (entries_in (take i row)) + length (entries_in (get_or row i d ∷ []))
+entries_more row i d h =
+    ap (λ r. length (entries_in r)) (ap (λ n. take n row) (add-one i) ∙ take-suc row i d h) ∙ entries-++ (take i row) (get_or row i d ∷ [])

@@ -35,11 +35,29 @@ fn is_error(event: &Event) -> bool
     matches!(event, Event::Error { .. })
 }
 
+// So many events of a row, or all of them.
+fn before(row: &[Event], at: usize) -> &[Event]
+    ensures { result.now ≡ first_of at row.now }
+{
+    &row[..at.min(row.len())]
+}
+
 // What stands behind so many events. A part and no `skip`, which would step over these events, at each call anew.
 fn behind(row: &[Event], at: usize) -> &[Event]
     ensures { result.now ≡ drop at row.now }
 {
     &row[at.min(row.len())..]
+}
+
+// How many Error events there are. By addition: `filter` branches at each event, and takes half as long again.
+fn count_errors(events: &[Event]) -> usize
+    ensures { result ≡ length (entries_in events.now) }
+{
+    let mut count = 0;
+    for event in events {
+        count += usize::from(is_error(event));
+    }
+    count
 }
 
 fn is_damaged(event: Event) -> bool
@@ -210,10 +228,6 @@ impl<'a> Reader<'a> {
     pub fn errors(&self) -> usize
         ensures { result ≡ length (entries_in (first_of self.now.at self.now.row.now)) }
     {
-        self.row
-            .iter()
-            .take(self.at)
-            .filter(|event| is_error(event))
-            .count()
+        count_errors(before(self.row, self.at))
     }
 }
